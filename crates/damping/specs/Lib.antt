@@ -1,0 +1,4 @@
+pub mod Rule
+pub mod Table
+pub mod Eurocode
+pub mod Either
