@@ -45,14 +45,21 @@ out-of-range layer field = fault-of OutOfRange layer field
 abbrev pub plain-fault : Refusal → Layer → Fault
 plain-fault w layer = fault-of w layer 0
 
--- a fault on its way to the sheet gets its line, and its field, if it names one, is counted further by some places
-abbrev pub placed-fault : ℕ → ℕ → Fault → Fault
-placed-fault line by e =
-    record { refusal = e .refusal; layer = e .layer; line = line; field = cond (eqb (e .field) 0) 0 (min 255 (e .field + by)) }
+-- on its way to a line, a fault's field, if it names one, is counted further by some places
+abbrev pub further-fault : ℕ → Fault → Fault
+further-fault by e = record { refusal = e .refusal; layer = e .layer; line = e .line; field = cond (eqb (e .field) 0) 0 (min (e .field + by) 255) }
 
-abbrev pub placed : {T : Type 0} → ℕ → ℕ → Result T Fault → Result T Fault
-placed line by (Ok x) = Ok x
-placed line by (Err e) = Err (placed-fault line by e)
+abbrev pub at-field : {T : Type 0} → ℕ → Result T Fault → Result T Fault
+at-field by (Ok x) = Ok x
+at-field by (Err e) = Err (further-fault by e)
+
+-- on its way to the sheet, a fault gets its line
+abbrev pub lined-fault : ℕ → Fault → Fault
+lined-fault line e = record { refusal = e .refusal; layer = e .layer; line = line; field = e .field }
+
+abbrev pub on-line : {T : Type 0} → ℕ → Result T Fault → Result T Fault
+on-line line (Ok x) = Ok x
+on-line line (Err e) = Err (lined-fault line e)
 
 -- one call after another: the first refusal is passed up
 abbrev pub and-then : {S T : Type 0} → Result S Fault → (S → Result T Fault) → Result T Fault

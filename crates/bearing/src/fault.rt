@@ -1,5 +1,5 @@
 ghost use mathlib.Core.Path.{_≡_};
-ghost use Rattle.bearing.specs.Refusals.{number-of, layer-number, placed};
+ghost use Rattle.bearing.specs.Refusals.{number-of, layer-number, at-field, on-line};
 
 // Why a call is refused; docs/REFUSALS.md tells of each.
 #[derive(Clone, Copy, PartialEq, Eq, Debug)]
@@ -75,15 +75,25 @@ pub struct Fault {
     pub field: u8,
 }
 
-// Passes an answer up to the sheet: a fault gets its line, and a field is counted further by `by` places.
-pub fn on_line<T>(r: Result<T, Fault>, line: u16, by: u8) -> Result<T, Fault>
-    ensures { λ s. ⌜ s ≡ placed line by r ⌝ }
+// Passes an answer up to a line: a fault that names a field has it counted further by `by` places.
+pub fn at_field<T>(r: Result<T, Fault>, by: u8) -> Result<T, Fault>
+    ensures { λ s. ⌜ s ≡ at-field by r ⌝ }
 {
     match r {
         Ok(x) => Ok(x),
         Err(e) => {
             let field = if e.field == 0 { 0 } else { e.field.saturating_add(by) };
-            Err(Fault { line, field, ..e })
+            Err(Fault { field, ..e })
         }
+    }
+}
+
+// Passes an answer up to the sheet: a fault gets its line.
+pub fn on_line<T>(r: Result<T, Fault>, line: u16) -> Result<T, Fault>
+    ensures { λ s. ⌜ s ≡ on-line line r ⌝ }
+{
+    match r {
+        Ok(x) => Ok(x),
+        Err(e) => Err(Fault { line, ..e }),
     }
 }

@@ -22,6 +22,7 @@ pub trait Bearing {
 // A kind that a sheet can name: by a letter, with a number of fields of its own.
 pub trait SheetKind: Bearing + Sized {
     const LETTER: char;
+
     const FIELDS: usize;
 
     ghost letter: { ℕ };

@@ -1,0 +1,6 @@
+pub mod Parts
+pub mod Numbers
+pub mod RowLines
+pub mod CaseLines
+pub mod Machine
+pub mod Reading
