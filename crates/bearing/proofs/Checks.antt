@@ -5,11 +5,11 @@ use Prim.Native.Nat.{ℕ, _≤_}
 use Rattle.std.specs.declared.result.Result.{Result}
 use Rattle.std.specs.declared.result.Result.the-variants.{Ok, Err}
 use Rattle.std.specs.Results.{isOk}
-use Rattle.std.proofs.shelf.Tests.{false≢true, leb-true}
+use Rattle.std.proofs.shelf.Tests.{false≢true}
 use Rattle.bearing.specs.declared.fault.Fault.{Fault}
-use Rattle.bearing.specs.Ranges.{between, top-force}
+use Rattle.bearing.specs.Ranges.{between}
 use Rattle.bearing.specs.Refusals.{and-then}
-use Rattle.bearing.specs.Fields.{field-checked, force-checked}
+use Rattle.bearing.specs.Fields.{field-checked}
 use Rattle.bearing.proofs.Numbers.{between-says}
 
 pub first-passed : {S T : Type 0} (r : Result S Fault) (f : S → Result T Fault) → isOk (and-then r f) ≡ true → isOk r ≡ true
@@ -21,17 +21,9 @@ pub then-passed : {T : Type 0} (r : Result (Unit {0}) Fault) (f : Unit {0} → R
 then-passed (Ok x) f h = h
 then-passed (Err e) f h = absurd (false≢true h)
 
-pub both-passed : {T : Type 0} (r : Result (Unit {0}) Fault) (f : Unit {0} → Result T Fault) → isOk r ≡ true → isOk (f tt) ≡ true → isOk (and-then r f) ≡ true
-both-passed (Ok x) f h h′ = h′
-both-passed (Err e) f h h′ = h
-
 pub cond-passed : {T : Type 0} (t : Bool) (x : T) (e : Fault) → isOk {T = T} {E = Fault} (cond t (Ok x) (Err e)) ≡ true → t ≡ true
 cond-passed true x e h = refl
 cond-passed false x e h = h
-
-pub passed-cond : {T : Type 0} (t : Bool) (x : T) (e : Fault) → t ≡ true → isOk {T = T} {E = Fault} (cond t (Ok x) (Err e)) ≡ true
-passed-cond true x e h = refl
-passed-cond false x e h = h
 
 pub field-passed : (x lo hi place : ℕ) → isOk (field-checked x lo hi place) ≡ true → (lo ≤ x) × (x ≤ hi)
 field-passed x lo hi place h = between-says lo hi x (cond-passed (between lo hi x) _ _ h)

@@ -1,7 +1,7 @@
 -- Quotients that grow, and what a test of two cases keeps. Assumes nothing.
-use mathlib.Core.Bool.{Bool, true, false, cond, _&&_}
-use mathlib.Core.Path.{_≡_, refl}
-use Prim.Native.Nat.{ℕ, _*_, _/_, _≤_, _<_}
+use mathlib.Core.Bool.{true, cond}
+use mathlib.Core.Path.{_≡_}
+use Prim.Native.Nat.{ℕ, _/_, _≤_, _<_}
 use native.Mathlib.Nat.{le-trans, div-mul-le-self}
 use native.Mathlib.Omega.{arith}
 use lib.Dec.{leb}

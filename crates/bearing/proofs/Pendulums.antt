@@ -2,7 +2,7 @@
 use mathlib.Core.Bool.{true, cond}
 use mathlib.Core.Path.{_≡_, refl}
 use Prim.Native.Nat.{ℕ, _+_, _*_, _/_, _≤_, _<_}
-use native.Mathlib.Nat.{le-trans, mul-le-mul-left, mul-le-mul, add-le-add, mul-comm, mul-zero}
+use native.Mathlib.Nat.{mul-le-mul-left, mul-le-mul, add-le-add, mul-comm, mul-zero}
 use native.Mathlib.Omega.{arith}
 use lib.Dec.{leb}
 use Rattle.std.specs.Results.{isOk}
@@ -10,8 +10,7 @@ use Rattle.std.proofs.shelf.Bits.{mul-le}
 use Rattle.std.proofs.shelf.Tests.{cond-both, leb-true, leb-false}
 use Rattle.bearing.specs.Ranges.{top-force}
 use Rattle.bearing.specs.Laws.{Laws}
-use Rattle.bearing.specs.Refusals.{and-then}
-use Rattle.bearing.specs.Fields.{field-checked, force-checked}
+use Rattle.bearing.specs.Fields.{field-checked}
 use Rattle.bearing.specs.Pendulums.{slip-of, sliding-force, sliding-energy, pendulum-ranged, pendulum-checked, pendulum-force, pendulum-energy}
 use Rattle.bearing.specs.declared.sliding.Pendulum.{Pendulum}
 use Rattle.bearing.proofs.Numbers.{div-grows, pick-grows}

@@ -36,6 +36,7 @@ group-force force g = clamped (times (counted (g .count) (force (g .member))) (f
 abbrev pub group-energy : {B : Type 0} → (B → Curve) → (B → Curve) → Group B → Curve
 group-energy force energy g = clamped (times (counted (g .count) (force (g .member))) (energy (g .member)))
 
+-- the group of n such bearings, accepted or not
 abbrev pub group-of : {B : Type 0} → ℕ → B → Group B
 group-of n b = record { count = n; member = b }
 

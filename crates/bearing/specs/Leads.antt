@@ -23,7 +23,7 @@ lead-letter = 76
 abbrev pub lead-fields : ℕ
 lead-fields = 5
 
--- the characteristic strength Q, in newtons: 0.9 times the lead's yield stress over its area, with π as 355/113
+-- the characteristic strength Q, in newtons: 0.9 times the yield stress of the lead times its area, with π as 355/113
 unfoldable pub strength-of : LeadRubber → ℕ
 strength-of b = 355 * (b .lead * b .lead) * b .stress * 9 / 45200
 
@@ -35,6 +35,7 @@ stiffness-of b = 3905 * b .modulus * (b .bonded * b .bonded - b .lead * b .lead)
 unfoldable pub yield-at : ℕ → ℕ → ℕ
 yield-at strength stiffness = (10 * strength + (9 * stiffness - 1)) / (9 * stiffness)
 
+-- the yield displacement of a bearing
 abbrev pub yield-of : LeadRubber → ℕ
 yield-of b = yield-at (strength-of b) (stiffness-of b)
 
@@ -51,15 +52,15 @@ bilinear-force strength stiffness yield s k d =
 abbrev pub bilinear-energy : ℕ → ℕ → Curve
 bilinear-energy strength yield s k d = cond (leb yield d) (strength * s / 100 * (d - yield)) 0
 
--- both by the formulas, whatever the fields
+-- the force by the formulas, in newtons, whatever the fields
 abbrev pub lead-formula : LeadRubber → Curve
 lead-formula b = bilinear-force (strength-of b) (stiffness-of b) (yield-of b)
 
+-- the energy by the formulas, in newtons times tenths of a millimetre, whatever the fields
 abbrev pub lead-energy-formula : LeadRubber → Curve
 lead-energy-formula b = bilinear-energy (strength-of b) (yield-of b)
 
--- each field in its range, from left to right: diameters and thickness in millimetres, the yield stress in
--- tenths and the shear modulus in hundredths of a megapascal
+-- each field in its range, from left to right: mm, tenths of MPa, mm, hundredths of MPa, mm
 abbrev pub lead-ranged : LeadRubber → Result (Unit {0}) Fault
 lead-ranged b =
     and-then (field-checked (b .lead) 10 400 1)
@@ -77,6 +78,7 @@ lead-shaped b =
 abbrev pub lead-checked : LeadRubber → Result LeadRubber Fault
 lead-checked b = and-then (lead-shaped b) (λ _. force-checked (lead-formula b 300 300 10000) b)
 
+-- the bearing of these fields, accepted or not
 abbrev pub lead-of : ℕ → ℕ → ℕ → ℕ → ℕ → LeadRubber
 lead-of lead stress bonded modulus rubber =
     record { lead = lead; stress = stress; bonded = bonded; modulus = modulus; rubber = rubber }

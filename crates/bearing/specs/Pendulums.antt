@@ -32,7 +32,7 @@ sliding-force b s d = cond (leb 1 d) (slip-of b s + 100 * b .load * d / b .radiu
 abbrev pub sliding-energy : Pendulum → ℕ → ℕ → ℕ
 sliding-energy b s d = slip-of b s * d
 
--- each field in its range, from left to right: load in kilonewtons, friction in thousandths, radius in millimetres
+-- each field in its range, from left to right: kN, thousandths, mm
 abbrev pub pendulum-ranged : Pendulum → Result (Unit {0}) Fault
 pendulum-ranged b =
     and-then (field-checked (b .load) 10 20000 1)
@@ -43,6 +43,7 @@ pendulum-ranged b =
 abbrev pub pendulum-checked : Pendulum → Result Pendulum Fault
 pendulum-checked b = and-then (pendulum-ranged b) (λ _. force-checked (sliding-force b 300 10000) b)
 
+-- the bearing of these fields, accepted or not
 abbrev pub pendulum-of : ℕ → ℕ → ℕ → Pendulum
 pendulum-of load friction radius = record { load = load; friction = friction; radius = radius }
 

@@ -12,7 +12,7 @@ use crate::ranges::nearest_travel;
 use crate::ranges::off_sheet;
 
 // A bearing of either of two kinds.
-#[derive(Clone, Copy, PartialEq, Eq, Debug)]
+#[derive(Clone, Copy)]
 pub enum Either<X, Y> {
     First(X),
     Second(Y),
@@ -32,7 +32,7 @@ pub impl<X: Bearing, Y: Bearing> Bearing for Either<X, Y> as EitherBearing {
 }
 
 // A group of equal bearings side by side.
-#[derive(Clone, Copy, PartialEq, Eq, Debug)]
+#[derive(Clone, Copy)]
 pub struct Group<B> {
     count: u8,
     member: B,
@@ -69,7 +69,7 @@ pub impl<B: Bearing> Bearing for Group<B> as GroupBearing {
 
     ghost energy = { group-energy (B·Bearing .force) (B·Bearing .energy) };
 
-    // The member is asked within the ranges, since a kind need not say what it answers outside them.
+    // The member is asked within the ranges: no law says that a bearing takes the nearest end itself.
     fn answer(&self, s: u16, k: u16, d: u16) -> (u64, u64) {
         let (greatest, _) = self.member.answer(TOP_FACTOR, TOP_FACTOR, TOP_TRAVEL);
         let (force, energy) = self.member

@@ -19,7 +19,7 @@ use crate::ranges::ranged_field;
 // A lead-rubber bearing: diameter of the lead in millimetres, its yield stress in tenths of a megapascal,
 // bonded diameter in millimetres, shear modulus in hundredths of a megapascal, and total thickness of the
 // rubber in millimetres.
-#[derive(Clone, Copy, PartialEq, Eq, Debug)]
+#[derive(Clone, Copy)]
 pub struct LeadRubber {
     lead: u32,
     stress: u32,
@@ -92,7 +92,7 @@ impl LeadRubber {
         bilinear(strength, stiffness, yields, s as u64, k as u64, d as u64)
     }
 
-    // The characteristic strength, in newtons: 0.9 times the lead's yield stress over its area, π/4 being 355/452.
+    // The characteristic strength, in newtons: 0.9 times the yield stress of the lead times its area, π/4 being 355/452.
     fn strength(&self) -> u64
         requires { ⌜ isOk (lead-shaped (now self)) ≡ true ⌝ }
         ensures value { λ r. ⌜ r ≡ strength-of (now (self .entry)) ⌝ }

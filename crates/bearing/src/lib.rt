@@ -1,3 +1,5 @@
+// Isolation bearings: the kinds, how each is made, what it answers, and why a call is refused.
+
 mod compound;
 mod fault;
 mod kinds;

@@ -1,6 +1,6 @@
 ghost use mathlib.Core.Path.{_≡_};
 ghost use mathlib.Core.Bool.{true};
-ghost use Prim.Native.Nat.{ℕ, _*_, _≤_};
+ghost use Prim.Native.Nat.{_≤_};
 ghost use Rattle.std.specs.Results.{isOk};
 ghost use Rattle.bearing.specs.Pendulums.{pendulum-letter, pendulum-fields, sliding-force, sliding-energy, pendulum-ranged, pendulum-made, pendulum-on-line, pendulum-checked, pendulum-force, pendulum-energy};
 use crate::fault::Fault;
@@ -17,7 +17,7 @@ use crate::ranges::off_sheet;
 use crate::ranges::ranged_field;
 
 // A pendulum bearing: load in kilonewtons, friction in thousandths, radius in millimetres.
-#[derive(Clone, Copy, PartialEq, Eq, Debug)]
+#[derive(Clone, Copy)]
 pub struct Pendulum {
     load: u32,
     friction: u32,
@@ -54,7 +54,7 @@ impl Pendulum {
         ranged_field(self.radius, 200, 20_000, 3)
     }
 
-    // Force and energy by the formulas. Friction alone holds the deck at rest, so at d = 0 there is no force.
+    // Force and energy by the formulas. Friction acts only once the deck has moved.
     fn slide(&self, s: u16, d: u16) -> (u64, u64)
         requires fields { ⌜ isOk (pendulum-ranged (now self)) ≡ true ⌝ }
         requires factor { ⌜ s ≤ 300 ⌝ }
@@ -76,7 +76,7 @@ pub impl Bearing for Pendulum as PendulumBearing {
 
     ghost energy = { pendulum-energy };
 
-    // The stiffness factor has no effect: the radius alone gives the stiffness.
+    // The stiffness factor has no effect: load and radius alone give the stiffness.
     fn answer(&self, s: u16, _k: u16, d: u16) -> (u64, u64) {
         if !self.checked().is_ok() {
             return (0, 0);

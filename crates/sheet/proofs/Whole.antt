@@ -15,8 +15,9 @@ use Rattle.std.specs.declared.result.Result.{Result}
 use Rattle.std.specs.declared.result.Result.the-variants.{Ok, Err}
 use Rattle.std.proofs.shelf.Tests.{cond-false, le-ltb}
 use Rattle.bearing.specs.declared.fault.Fault.{Fault}
-use Rattle.bearing.specs.declared.fault.Layer.the-variants.{Sheet}
-use Rattle.bearing.specs.Refusals.{and-then, at-field, on-line, out-of-range}
+use Rattle.bearing.specs.declared.fault.Refusal.the-variants.{NoPlace}
+use Rattle.bearing.specs.declared.fault.Layer.the-variants.{Bridge, Sheet}
+use Rattle.bearing.specs.Refusals.{and-then, at-field, on-line, out-of-range, plain-fault}
 use Rattle.bridge.specs.declared.weighing.Weight.{Weight}
 use Rattle.bridge.specs.Lists.{push-answer, pushed, free}
 use Rattle.bridge.specs.Making.{with-ok, case-field, bounds-ordered, case-made}
@@ -41,7 +42,7 @@ chosen true x m z e = cc
 chosen false x m z e = absurd (clash e)
 
 -- what makes a case is those numbers themselves
-pub case-same : {R : Type 0} (n m : Numbers) → case-made n ≡ Ok m → n ≡ m
+pub case-same : (n m : Numbers) → case-made n ≡ Ok m → n ≡ m
 case-same n m e =
     let a = passed (case-field (n .accel) 1 100 1) _ m e in
     let b = passed (case-field (n .slo) 50 300 3) _ m a in
@@ -61,20 +62,21 @@ numbered false r z m e = absurd (clash e)
 line-made : (n : ℕ) (o : Result (ℕ × Numbers) Fault) (m : Numbers) → and-then o (case-of n) ≡ Ok m → case-made m ≡ Ok m
 line-made n (Ok c) m e =
     let made : case-made (c .1) ≡ Ok m = shifted 1 (case-made (c .1)) m (numbered (eqb (c .0) n) (at-field 1 (case-made (c .1))) (out-of-range Sheet 1) m e) in
-    subst (λ (x : Numbers). case-made x ≡ Ok m) (case-same {R = ℕ} (c .1) m made) made
+    subst (λ (x : Numbers). case-made x ≡ Ok m) (case-same (c .1) m made) made
 line-made n (Err z) m e = absurd (clash e)
 
 one-more : (xs : List Numbers) (x : Numbers) → AllMade xs → case-made x ≡ Ok x → AllMade (xs ++ (x ∷ []))
 one-more [] x h k = (k, tt)
 one-more (y ∷ ys) x h k = (h .0, one-more ys x (h .1) k)
 
+-- a list with one element more, where it could be kept
+placed : (b : Bool) (xs : List Numbers) (x : Numbers) (ys : List Numbers) (z : Fault) → with-ok {S = Unit {0}} (cond b (Ok tt) (Err z)) (λ _. cond b (xs ++ (x ∷ [])) xs) ≡ Ok ys → xs ++ (x ∷ []) ≡ ys
+placed true xs x ys z q = cc
+placed false xs x ys z q = absurd (clash q)
+
 kept-made : (places : ℕ) (xs : List Numbers) (r : Result Numbers Fault) (ys : List Numbers) → AllMade xs → ((m : Numbers) → r ≡ Ok m → case-made m ≡ Ok m) → kept places xs r ≡ Ok ys → AllMade ys
 kept-made places xs (Err z) ys h k e = absurd (clash e)
-kept-made places xs (Ok x) ys h k e = go (free places xs) e
-  where
-    go : (b : Bool) → with-ok {S = Unit {0}} (cond b (Ok tt) (Err _)) (λ _. cond b (xs ++ (x ∷ [])) xs) ≡ Ok ys → AllMade ys
-    go true q = let same : xs ++ (x ∷ []) ≡ ys = cc in subst AllMade same (one-more xs x h (k x refl))
-    go false q = absurd (clash q)
+kept-made places xs (Ok x) ys h k e = subst AllMade (placed (free places xs) xs x ys (plain-fault NoPlace Bridge) e) (one-more xs x h (k x refl))
 
 -- a result by a part, where it is one
 of-ok : {S T : Type 0} (r : Result S Fault) (f : S → T) (t : T) → with-ok r f ≡ Ok t → (s : S) × (r ≡ Ok s) × (f s ≡ t)
@@ -86,6 +88,10 @@ alone : {S : Type 0} (r : Result S Fault) (f : S → State) (cs : List Numbers) 
 alone r f cs s same h e =
     let p = of-ok r f s e in
     subst AllMade (sym (same (p .0)) ∙ ap (λ (t : State). t .cases) (p .2)) h
+
+taken-on : (x : Result State Fault) (k : ℕ) (f : State → Result Content Fault) (c : Content) → ((s : State) → x ≡ Ok s → f s ≡ Ok c → AllMade (c .cases)) → onward x k f ≡ Ok c → AllMade (c .cases)
+taken-on (Ok s) k f c g e = g s refl e
+taken-on (Err z) k f c g e = absurd (clash e)
 
 module _ (rp cp : ℕ) where
   step-made : (stage : Stage) (st s : State) (line : List ℕ) → AllMade (st .cases) → step-at rp cp stage st line ≡ Ok s → AllMade (s .cases)
@@ -109,11 +115,7 @@ module _ (rp cp : ℕ) where
       let p = of-ok (on-line k (weight-at-end (st .at .stage) (st .at .weight) (length (st .cases)))) _ c e in
       subst AllMade (ap (λ (t : Content). t .cases) (p .2)) h
   lines-made [] k st (x ∷ xs) c h e = absurd (clash e)
-  lines-made (m ∷ ls) k st l c h e = go (step rp cp st l) refl e
-    where
-      go : (x : Result State Fault) → step rp cp st l ≡ x → onward x k (λ s. read-lines rp cp (k + 1) s m ls) ≡ Ok c → AllMade (c .cases)
-      go (Ok s) is q = lines-made ls (k + 1) s m c (step-made (st .at .stage) st s l h is) q
-      go (Err z) is q = absurd (clash q)
+  lines-made (m ∷ ls) k st l c h e = taken-on (step rp cp st l) k (λ s. read-lines rp cp (k + 1) s m ls) c (λ s is q. lines-made ls (k + 1) s m c (step-made (st .at .stage) st s l h is) q) e
 
   parts-made : (ls : List (List ℕ)) (c : Content) → read-parts rp cp 1 (begun-with [] []) ls ≡ Ok c → AllMade (c .cases)
   parts-made [] c e = absurd (clash e)

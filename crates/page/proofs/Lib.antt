@@ -1,0 +1,4 @@
+pub mod Bytes
+pub mod Lined
+pub mod Sizes
+pub mod Turns
