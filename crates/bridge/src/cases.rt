@@ -49,12 +49,6 @@ impl<R: Copy> Case<R> {
 }
 
 impl<R> Case<R> {
-    pub fn numbers(&self) -> &CaseNumbers<R>
-        ensures { λ r. ⌜ now r ≡ now (self .entry) .numbers ⌝ }
-    {
-        &self.numbers
-    }
-
     // The demand of a deck of this weight, in newtons times tenths of a millimetre; it is in the range of a rule.
     pub fn demand(&self, weight: Weight) -> u64
         ensures low { λ r. ⌜ 1 ≤ r ⌝ }

@@ -53,13 +53,13 @@ impl<'a, B: Copy> Draft<'a, B> {
 }
 
 impl<'a, B: Copy> Bridge<'a, B> {
-    pub fn weight(&self) -> Weight
+    pub(crate) fn weight(&self) -> Weight
         ensures { λ r. ⌜ r ≡ now (self .entry) .weight ⌝ }
     {
         self.weight
     }
 
-    pub fn rows(&self) -> &[B]
+    pub(crate) fn rows(&self) -> &[B]
         ensures { λ r. ⌜ now r ≡ items (now (self .entry) .rows) ⌝ }
     {
         self.rows.as_slice()

@@ -16,3 +16,6 @@ pub use loads::Site;
 pub use places::Listing;
 pub use replies::Answer;
 pub use weighing::Weight;
+
+#[cfg(test)]
+mod tests;

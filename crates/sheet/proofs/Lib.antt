@@ -4,4 +4,11 @@ pub mod Taken
 pub mod Lining
 pub mod Standing
 pub mod Turns
+pub mod Makings
 pub mod Whole
+pub mod Spelling
+pub mod Parting
+pub mod Rowwise
+pub mod Casewise
+pub mod Reread
+pub mod Accepted

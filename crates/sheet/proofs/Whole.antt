@@ -20,36 +20,15 @@ use Rattle.bearing.specs.declared.fault.Layer.the-variants.{Bridge, Sheet}
 use Rattle.bearing.specs.Refusals.{and-then, at-field, on-line, out-of-range, plain-fault}
 use Rattle.bridge.specs.declared.weighing.Weight.{Weight}
 use Rattle.bridge.specs.Lists.{push-answer, pushed, free}
-use Rattle.bridge.specs.Making.{with-ok, case-field, bounds-ordered, case-made}
+use Rattle.bridge.specs.Making.{with-ok, case-made}
 use Rattle.sheet.specs.declared.machine.Stage.{Stage}
 use Rattle.sheet.specs.declared.machine.Stage.the-variants.{WeightNames, WeightValue, RowNames, Rows, Cases}
 use Rattle.sheet.specs.Parts.{parts, begins}
 use Rattle.sheet.specs.RowLines.{Row, row-line, form-fault}
 use Rattle.sheet.specs.CaseLines.{Numbers, case-form, case-of, case-line}
+use Rattle.sheet.proofs.Makings.{clash, case-same}
 use Rattle.sheet.specs.Machine.{State, step-at, step, kept, cases-named}
 use Rattle.sheet.specs.Reading.{Content, weight-at-end, finished, last-part, onward, begun-with, read-lines, read-parts, read-sheet, rows-read, cases-read, AllMade}
-
-clash : {S : Type 0} {x : S} {e : Fault} → _≡_ {A = Result S Fault} (Err e) (Ok x) → ⊥
-clash q = let z : _≡_ {A = ℕ} 0 1 = cc in omega arith
-
--- a check that passed hands on to the next
-passed : {T : Type 0} (r : Result (Unit {0}) Fault) (f : Unit {0} → Result T Fault) (m : T) → and-then r f ≡ Ok m → f tt ≡ Ok m
-passed (Ok u) f m e = e
-passed (Err z) f m e = absurd (clash e)
-
-chosen : {T : Type 0} (b : Bool) (x m : T) (z : Fault) → _≡_ {A = Result T Fault} (cond b (Ok x) (Err z)) (Ok m) → x ≡ m
-chosen true x m z e = cc
-chosen false x m z e = absurd (clash e)
-
--- what makes a case is those numbers themselves
-pub case-same : (n m : Numbers) → case-made n ≡ Ok m → n ≡ m
-case-same n m e =
-    let a = passed (case-field (n .accel) 1 100 1) _ m e in
-    let b = passed (case-field (n .slo) 50 300 3) _ m a in
-    let c = passed (case-field (n .shi) 50 300 4) _ m b in
-    let d = passed (case-field (n .klo) 50 300 5) _ m c in
-    let f = passed (case-field (n .khi) 50 300 6) _ m d in
-    chosen (leb (n .slo) (n .shi) && leb (n .klo) (n .khi)) n m _ f
 
 shifted : (by : ℕ) (r : Result Numbers Fault) (m : Numbers) → at-field by r ≡ Ok m → r ≡ Ok m
 shifted by (Ok x) m e = e

@@ -4,3 +4,4 @@ pub mod RowLines
 pub mod CaseLines
 pub mod Machine
 pub mod Reading
+pub mod Text

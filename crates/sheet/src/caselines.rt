@@ -73,8 +73,8 @@ fn case_form(text: &[u8]) -> Option<(u32, Numbers)>
 fn making_a_case(numbers: Numbers) -> Result<Numbers, Fault>
     ensures { λ r. ⌜ r ≡ case-made numbers ⌝ }
 {
-    let case = Case::new(numbers)?;
-    Ok(*case.numbers())
+    let _case = Case::new(numbers)?;
+    Ok(numbers)
 }
 
 // The numbers of the case that is numbered `n`; they make a case.

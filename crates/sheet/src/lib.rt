@@ -10,3 +10,6 @@ pub use caselines::SheetRule;
 pub use numbers::number;
 pub use reading::read;
 pub use rowlines::Row;
+
+#[cfg(test)]
+mod tests;

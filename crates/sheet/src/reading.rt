@@ -5,6 +5,7 @@ ghost use Rattle.bridge.specs.Lists.{items, capacity};
 ghost use Rattle.bridge.specs.Making.{with-ok};
 ghost use Rattle.sheet.specs.Parts.{parts};
 ghost use Rattle.sheet.specs.Reading.{begun-with, read-parts, read-sheet, rows-read, cases-read, AllMade};
+ghost use Rattle.sheet.specs.Text.{TextLaw};
 use crate::caselines::Numbers;
 use crate::machine::Reader;
 use crate::machine::Stage;
@@ -55,6 +56,7 @@ pub fn read(sheet: &[u8], rows: &mut Listing<'_, Row, 64>, cases: &mut Listing<'
     ensures rowplaces { λ _. ⌜ capacity (now (rows .exit)) ≡ capacity (now (rows .entry)) ⌝ }
     ensures caseplaces { λ _. ⌜ capacity (now (cases .exit)) ≡ capacity (now (cases .entry)) ⌝ }
     ensures made { λ _. ⌜ AllMade (items (now (cases .exit))) ⌝ }
+    ensures text { λ _. ⌜ TextLaw (capacity (now (rows .entry))) (capacity (now (cases .entry))) (now (sheet .entry)) ⌝ }
 {
     rows.clear();
     cases.clear();

@@ -1,10 +1,37 @@
-use mathlib.Core.Path.{_≡_, sym, ap, ap₂, _∙_}
-use mathlib.Core.List.{[]}
+use mathlib.Core.Path.{sym, ap₂, _∙_}
 use Rattle.bridge.specs.Lists.{items, capacity}
 use Rattle.sheet.specs.Parts.{parts}
 use Rattle.sheet.specs.Reading.{begun-with, read-parts}
-use Rattle.sheet.proofs.Whole.{Back, read-back}
+use native.Mathlib.Omega.{arith}
+use Rattle.sheet.proofs.Whole.{read-back}
+use Rattle.sheet.proofs.Accepted.{text-law}
+use borrow.Author.Needs.{needs}
 use Rattle.sheet.proofs.reading.read.Needs as need
+
+-- a sheet that is too long, and one that is refused on a line
+pub returns-then-sheet-gt16384 : need.returns-then-sheet-gt16384
+returns-then-sheet-gt16384 c =
+    record {
+      weight = search needs;
+      rows = search needs;
+      cases = search needs;
+      rowplaces = search needs;
+      caseplaces = search needs;
+      made = search needs;
+      text = text-law (capacity (c .args .rows .now)) (capacity (c .args .cases .now)) (c .args .sheet .now) (omega arith) (omega arith);
+    }
+
+pub returns-then-is-err : need.returns-then-is-err
+returns-then-is-err c =
+    record {
+      weight = search needs;
+      rows = search needs;
+      cases = search needs;
+      rowplaces = search needs;
+      caseplaces = search needs;
+      made = search needs;
+      text = text-law (capacity (c .args .rows .now)) (capacity (c .args .cases .now)) (c .args .sheet .now) (omega arith) (omega arith);
+    }
 
 pub returns-else-is-err : need.returns-else-is-err
 returns-else-is-err c =
@@ -21,4 +48,5 @@ returns-else-is-err c =
       rowplaces = c .read-lines-weight .ensures .rowplaces ∙ c .clear .ensures .places;
       caseplaces = c .read-lines-weight .ensures .caseplaces ∙ c .clear-2 .ensures .places;
       made = back .made;
+      text = text-law (capacity (c .args .rows .now)) (capacity (c .args .cases .now)) (c .args .sheet .now) (omega arith) (omega arith);
     }
