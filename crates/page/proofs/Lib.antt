@@ -1,4 +1,5 @@
 pub mod Bytes
 pub mod Lined
 pub mod Sizes
+pub mod Tells
 pub mod Turns

@@ -5,6 +5,7 @@ ghost use denote.Ref.{name};
 ghost use Rattle.bridge.specs.Outcomes.{outcome};
 ghost use Rattle.page.specs.Text.{written, case-line, end-line, void-line};
 ghost use Rattle.page.specs.Pages.{begun, begun-len, line-answer, lined, lined-len, lined-count, closed, closed-len, lacks-space, line-space};
+ghost use Rattle.page.specs.Telling.{PageTells};
 use super::Page;
 use crate::digits::put;
 use crate::lines::case_size;
@@ -110,9 +111,11 @@ impl<'a> Page<'a> {
     }
 
     // Ends the page with a line that counts its case lines, and answers the whole length written.
+    // What is written of an ended page tells every outcome on it.
     pub fn end(self) -> usize
         ensures bytes { λ _. ⌜ now (self .exit .0) ≡ closed (now (self .entry .buffer)) (self .entry .len) (end-line (self .entry .cases)) ⌝ }
         ensures value { λ r. ⌜ r ≡ closed-len (length (now (self .entry .buffer))) (self .entry .len) (end-line (self .entry .cases)) ⌝ }
+        ensures tells { λ _. ⌜ PageTells ⌝ }
     {
         let Page { buffer, len, cases } = self;
         put_last_count(buffer, len, cases)
