@@ -1,29 +1,25 @@
 -- The page of a sheet, from bytes to bytes. Assumes nothing.
-use mathlib.Core.Bool.{Bool, cond}
 use mathlib.Core.List.{List, [], _∷_, map}
 use Prim.Native.Nat.{ℕ, _+_}
-use lib.Dec.{ltb}
 use lib.ListN.{length}
 use Rattle.std.specs.declared.result.Result.{Result}
 use Rattle.std.specs.declared.result.Result.the-variants.{Ok, Err}
 use Rattle.bearing.specs.declared.fault.Fault.{Fault}
-use Rattle.bearing.specs.declared.fault.Refusal.the-variants.{PageFull}
-use Rattle.bearing.specs.declared.fault.Layer.the-variants.{Sheet}
-use Rattle.bearing.specs.Refusals.{plain-fault, and-then}
+use Rattle.bearing.specs.Refusals.{and-then}
 use Rattle.bearing.specs.Laws.{Curve}
-use Rattle.bearing.specs.Leads.{lead-force, lead-energy}
-use Rattle.bearing.specs.Pendulums.{pendulum-force, pendulum-energy}
+use Rattle.bearing.specs.Leads.{lead-energy}
+use Rattle.bearing.specs.Pendulums.{pendulum-energy}
 use Rattle.bearing.specs.Compound.{by-kind, group-force, group-energy}
 use Rattle.damping.specs.Rule.{Says}
 use Rattle.damping.specs.Table.{table-says}
 use Rattle.damping.specs.Eurocode.{eurocode-says}
 use Rattle.damping.specs.Either.{by-rule}
 use Rattle.bridge.specs.Answers.{queried}
-use Rattle.bridge.specs.Outcomes.{Values, Outcome, Answered, Refused, outcome-of}
+use Rattle.bridge.specs.Outcomes.{Outcome, Answered, Refused, outcome-of}
 use Rattle.sheet.specs.RowLines.{Row, kind-force}
 use Rattle.sheet.specs.CaseLines.{SheetRule, Numbers}
 use Rattle.sheet.specs.Reading.{Content, read-sheet}
-use Rattle.page.specs.Text.{case-line, refusal-page}
+use Rattle.page.specs.Text.{case-line}
 use Rattle.page.specs.Pages.{begun-len, line-answer, refusal-answer, refusal-written}
 use Rattle.page.specs.Runs.{page-run}
 use Rattle.deck.specs.declared.job.Summary.{Summary}
@@ -63,7 +59,7 @@ lines-answer size at count [] = Ok tt
 lines-answer size at count (o ∷ os) =
     and-then (line-answer size at count (case-line (count + 1) o)) (λ _. lines-answer size (at + length (case-line (count + 1) o)) (count + 1) os)
 
--- a whole job: the bytes of the page, how many of them are written, and what is told of the sheet
+-- a whole job: the bytes of the page, how many of them are written, and what the sheet holds or why it is refused
 pub record Done : Type 0 where
   pub bytes : List ℕ
   pub written : ℕ
@@ -89,15 +85,15 @@ abbrev pub refusal-len : Result ℕ Fault → ℕ
 refusal-len (Ok n) = n
 refusal-len (Err e) = 0
 
-abbrev pub refusal-told : Result ℕ Fault → Fault → Fault
-refusal-told (Ok n) e = e
-refusal-told (Err z) e = z
+abbrev pub refusal-fault : Result ℕ Fault → Fault → Fault
+refusal-fault (Ok n) e = e
+refusal-fault (Err z) e = z
 
 abbrev pub refusal-done : List ℕ → Fault → Done
 refusal-done old e = record {
   bytes = refusal-written old e;
   written = refusal-len (refusal-answer (length old) e);
-  result = Err (refusal-told (refusal-answer (length old) e) e);
+  result = Err (refusal-fault (refusal-answer (length old) e) e);
 }
 
 abbrev pub content-done : List ℕ → Result Content Fault → Done

@@ -12,3 +12,5 @@ pub mod Rowwise
 pub mod Casewise
 pub mod Reread
 pub mod Accepted
+pub mod Hangs
+pub mod Drafting

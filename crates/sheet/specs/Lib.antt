@@ -5,3 +5,4 @@ pub mod CaseLines
 pub mod Machine
 pub mod Reading
 pub mod Text
+pub mod Hanging

@@ -1,4 +1,5 @@
 mod caselines;
+mod drafts;
 mod machine;
 mod numbers;
 mod parts;
@@ -7,6 +8,9 @@ mod rowlines;
 
 pub use caselines::Numbers;
 pub use caselines::SheetRule;
+pub use drafts::SheetDraft;
+pub use drafts::read_draft;
+pub use drafts::spare_row;
 pub use numbers::number;
 pub use reading::read;
 pub use rowlines::Row;
