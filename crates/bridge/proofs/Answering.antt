@@ -2,27 +2,28 @@
 use mathlib.Core.Path.{_≡_, refl, sym, ap, _∙_}
 use mathlib.Core.Bool.{Bool, true, false, cond}
 use mathlib.Core.List.{List}
-use Prim.Native.Nat.{ℕ, _≤_, _<_}
+use Prim.Native.Nat.{ℕ, _-_, _≤_, _<_}
 use native.Mathlib.Omega.{arith}
 use lib.ListN.{length}
-use lib.Dec.{ltb}
+use lib.Dec.{ltb, leb}
 use Rattle.std.specs.Options.{isSome}
 use Rattle.std.specs.declared.option.Option.{Option}
 use Rattle.std.specs.declared.option.Option.the-variants.{Some, None}
 use Rattle.std.specs.declared.result.Result.{Result}
 use Rattle.std.specs.declared.result.Result.the-variants.{Ok, Err}
-use Rattle.std.proofs.shelf.Tests.{cond-true, lt-ltb}
+use Rattle.std.proofs.shelf.Tests.{cond-true, lt-ltb, le-leb, and-from}
 use Rattle.bearing.specs.declared.fault.Refusal.the-variants.{NoRows, BeyondRange}
 use Rattle.bearing.specs.declared.fault.Layer.the-variants.{Bridge}
 use Rattle.bearing.specs.declared.fault.Fault.{Fault}
+use Rattle.bearing.specs.Ranges.{between}
 use Rattle.bearing.specs.Refusals.{plain-fault}
 use Rattle.bearing.specs.Laws.{Laws, Curve}
 use Rattle.damping.specs.Rule.{RuleLaws}
 use Rattle.bridge.specs.declared.loads.CaseNumbers.{CaseNumbers}
 use Rattle.bridge.specs.Making.{demand}
-use Rattle.bridge.specs.Sums.{all-at, total, met}
+use Rattle.bridge.specs.Sums.{all-at, at-row, total, met}
 use Rattle.bridge.specs.Design.{design}
-use Rattle.bridge.specs.Answers.{lowest, highest, meets, values-at, answer-at, queried}
+use Rattle.bridge.specs.Answers.{lowest, highest, meets, values-at, answer-at, queried, row-answer-at, row-queried}
 use Rattle.bridge.specs.Outcomes.{Values}
 use Rattle.bridge.proofs.Covering.{design-found, high-found}
 
@@ -50,6 +51,17 @@ module _ {B R : Type 0} (force energy : B → Curve) (says : R → ℕ → ℕ �
 
   pub high-is : (dhigh : ℕ) (o : Option ℕ) → o ≡ found-at (c .shi) (c .khi) → o ≡ Some dhigh → design (meets force energy says rows W c (highest c)) ≡ Some dhigh
   high-is dhigh o e s = sym (by-demand (c .shi) (c .khi)) ∙ sym e ∙ s
+
+  -- a row that is there
+  row-there : (n : ℕ) → 1 ≤ n → n ≤ length rows → row-queried force energy says rows W c n ≡ row-answer-at force energy says rows W c n (design (meets force energy says rows W c (lowest c)))
+  row-there n low high =
+      cond-true (ltb 0 (length rows)) _ _ (lt-ltb 0 (length rows) (omega arith)) ∙ cond-true (between 1 (length rows) n) _ _ (and-from _ _ (le-leb 1 n low) (le-leb n (length rows) high))
+
+  pub row-refused-is : (n : ℕ) → 1 ≤ n → n ≤ length rows → None ≡ found-at (c .slo) (c .klo) → row-queried force energy says rows W c n ≡ Err (plain-fault BeyondRange Bridge)
+  row-refused-is n low high e = row-there n low high ∙ ap (row-answer-at force energy says rows W c n) (sym (e ∙ by-demand (c .slo) (c .klo)))
+
+  pub row-answered-is : (n dlow : ℕ) → 1 ≤ n → n ≤ length rows → Some dlow ≡ found-at (c .slo) (c .klo) → row-queried force energy says rows W c n ≡ Ok (at-row force rows (highest c) (n - 1) dlow)
+  row-answered-is n dlow low high e = row-there n low high ∙ ap (row-answer-at force energy says rows W c n) (sym (e ∙ by-demand (c .slo) (c .klo)))
 
   module _ (laws : (b : B) → Laws (force b) (energy b)) (keeps : (r : R) → RuleLaws (says r)) (few : length rows ≤ 64)
     (s-ordered : c .slo ≤ c .shi) (k-ordered : c .klo ≤ c .khi) (low : 1 ≤ Q) (top : Q ≤ 20000000000000) where

@@ -1,6 +1,6 @@
 -- An answered load case covers every choice of factors that the case allows. Assumes nothing.
 use mathlib.Core.Path.{_≡_, refl, sym, ap, _∙_, subst}
-use mathlib.Core.Logic.{_↔_}
+use mathlib.Core.Logic.{_⊎_, _↔_, ⊎-elim}
 use mathlib.Core.Bool.{Bool, true, false, cond}
 use mathlib.Core.List.{List, [], _∷_}
 use Prim.Native.Nat.{ℕ, zero, suc, _+_, _-_, _*_, _≤_, _<_}
@@ -14,19 +14,21 @@ use Rattle.std.specs.declared.option.Option.the-variants.{Some, None}
 use Rattle.std.specs.declared.result.Result.{Result}
 use Rattle.std.specs.declared.result.Result.the-variants.{Ok, Err}
 use Rattle.bearing.specs.declared.fault.Fault.{Fault}
-use Rattle.bearing.specs.declared.fault.Refusal.the-variants.{NoRows, BeyondRange}
+use Rattle.bearing.specs.declared.fault.Refusal.the-variants.{NoRows, BeyondRange, NoSuchRow}
 use Rattle.bearing.specs.declared.fault.Layer.the-variants.{Bridge}
 use Rattle.bearing.specs.Refusals.{plain-fault, number-of}
+use Rattle.bearing.specs.Ranges.{between}
 use Rattle.bearing.specs.Laws.{Laws, Curve}
+use Rattle.std.proofs.shelf.Ways.{tells}
 use Rattle.damping.specs.Rule.{RuleLaws}
 use Rattle.bridge.specs.declared.loads.CaseNumbers.{CaseNumbers}
 use Rattle.bridge.specs.declared.replies.Answer.{Answer}
 use Rattle.bridge.specs.Making.{demand}
 use Rattle.bridge.specs.Sums.{Factors, Choice, at-row, total, met}
 use Rattle.bridge.specs.Design.{Design, Absent, design}
-use Rattle.bridge.specs.Answers.{lowest, highest, clearance, restoring, half-of, meets, values-at, answer-at, queried}
-use Rattle.bridge.specs.Outcomes.{Values, Outcome, Answered, Refused, outcome, outcome-of, reported, values-of}
-use Rattle.bridge.specs.Bounds.{Inside, Between, Covers, NoneMeets, QueryLaw}
+use Rattle.bridge.specs.Answers.{lowest, highest, clearance, restoring, half-of, meets, values-at, answer-at, queried, row-answer-at, row-queried}
+use Rattle.bridge.specs.Outcomes.{Values, Outcome, Answered, Refused, outcome, outcome-of, reported, values-of, RowOutcome, RowAnswered, RowRefused, row-outcome}
+use Rattle.bridge.specs.Bounds.{Inside, Between, Covers, NoneMeets, QueryLaw, RowLaw}
 use Rattle.bridge.proofs.Totals.{Below, total-grows, row-grows, met-grows}
 use Rattle.bridge.proofs.Firsts.{Designed, design-is, design-least, design-some, true-false}
 
@@ -144,3 +146,58 @@ module _ {B R : Type 0} {force energy : B → Curve} {says : R → ℕ → ℕ �
       go false is o h r e =
           let none = ltb-false 0 (length rows) is in
           record { no-rows = λ _. ap outcome-of e; beyond = λ some. absurd (omega arith); otherwise = λ some. absurd (omega arith) }
+
+  -- the answer that a query gives where the demand is met
+  answer-of : (dlow : ℕ) → Design (meets force energy says rows W c (lowest c)) dlow → (a : Answer) × Covers force energy says rows W c a × (a .dlow ≡ dlow)
+  answer-of dlow low =
+      let top = high-found dlow low in
+      (record { dlow = dlow; dhigh = top .0; force = total force rows (highest c) dlow; clear = clearance dlow; restores = restoring (total force rows (lowest c) dlow) (total force rows (lowest c) (half-of dlow)) W },
+      covered _ low (top .1 .designs) refl refl refl,
+      refl)
+
+  -- a row query's answer that is the defined one keeps the law
+  pub row-law : (n : ℕ) (r : Result ℕ Fault) → r ≡ row-queried force energy says rows W c n → RowLaw force energy says rows W c n r
+  row-law n r is = subst (RowLaw force energy says rows W c n) (sym is) (go (ltb 0 (length rows)) refl (between 1 (length rows) n) refl (design (meets force energy says rows W c (lowest c))) (design-is _))
+    where
+      answered : (o : Option ℕ) → Designed (meets force energy says rows W c (lowest c)) o →
+        ((row-outcome (row-answer-at force energy says rows W c n o) ≡ RowRefused (number-of BeyondRange)) ↔ NoneMeets force energy says rows W c) ×
+        ((NoneMeets force energy says rows W c → ⊥) → (a : Answer) × (row-outcome (row-answer-at force energy says rows W c n o) ≡ RowAnswered (at-row force rows (highest c) (n - 1) (a .dlow))) × Covers force energy says rows W c a)
+      answered (Some dlow) low =
+          let a = answer-of dlow low in
+          ((λ e. absurd (let z : _≡_ {A = ℕ} 0 1 = cc in omega arith), λ absent. absurd (true-false (sym (low .passed) ∙ absent dlow (low .from-one) (low .to-last)))),
+          λ _. (a .0, ap (λ (d : ℕ). RowAnswered (at-row force rows (highest c) (n - 1) d)) (sym (a .2)), a .1))
+      answered None absent = ((λ _. absent, λ _. refl), λ some. absurd (some absent))
+
+      go : (b : Bool) → ltb 0 (length rows) ≡ b → (t : Bool) → between 1 (length rows) n ≡ t → (o : Option ℕ) → Designed (meets force energy says rows W c (lowest c)) o →
+        RowLaw force energy says rows W c n (cond b (cond t (row-answer-at force energy says rows W c n o) (Err (plain-fault NoSuchRow Bridge))) (Err (plain-fault NoRows Bridge)))
+      go true is true t o h =
+          let some = ltb-true 0 (length rows) is in
+          let low : 1 ≤ n = grind (arith, tells) in
+          let high : n ≤ length rows = grind (arith, tells) in
+          let all = answered o h in
+          record {
+            no-rows = λ e. absurd (omega arith);
+            no-row = λ _ out. absurd (⊎-elim (λ (l : n < 1). omega arith) (λ (l : length rows < n). omega arith) out);
+            beyond = λ _ _. all .0;
+            otherwise = λ _ _. all .1;
+          }
+      go true is false t o h =
+          let some = ltb-true 0 (length rows) is in
+          let never : 1 ≤ n → n ≤ length rows → ⊥ = λ l u. grind (arith, tells) in
+          record { no-rows = λ e. absurd (omega arith); no-row = λ _ _. refl; beyond = λ l u. absurd (never l u); otherwise = λ l u. absurd (never l u) }
+      go false is t′ t o h =
+          let none = ltb-false 0 (length rows) is in
+          record { no-rows = λ _. refl; no-row = λ some. absurd (omega arith); beyond = λ l u. absurd (omega arith); otherwise = λ l u. absurd (omega arith) }
+
+  -- there is an answer that is the defined one
+  pub answer-exists : (r : Result Answer Fault) × (reported r ≡ queried force energy says rows W c)
+  answer-exists = go (ltb 0 (length rows)) (design (meets force energy says rows W c (lowest c))) (design-is _)
+    where
+      go : (b : Bool) (o : Option ℕ) → Designed (meets force energy says rows W c (lowest c)) o →
+        (r : Result Answer Fault) × (reported r ≡ cond b (answer-at force energy says rows W c o) (Err (plain-fault NoRows Bridge)))
+      go true (Some dlow) low =
+          let top = high-found dlow low in
+          (Ok (record { dlow = dlow; dhigh = top .0; force = total force rows (highest c) dlow; clear = clearance dlow; restores = restoring (total force rows (lowest c) dlow) (total force rows (lowest c) (half-of dlow)) W }),
+          ap (λ (h : Option ℕ). Ok (record { dlow = Some dlow; dhigh = h; force = total force rows (highest c) dlow; clear = clearance dlow; restores = restoring (total force rows (lowest c) dlow) (total force rows (lowest c) (half-of dlow)) W })) (sym (top .1 .found)))
+      go true None absent = (Err (plain-fault BeyondRange Bridge), refl)
+      go false o h = (Err (plain-fault NoRows Bridge), refl)

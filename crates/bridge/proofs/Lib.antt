@@ -4,3 +4,4 @@ pub mod Totals
 pub mod Firsts
 pub mod Covering
 pub mod Answering
+pub mod Entering

@@ -93,3 +93,10 @@ pub total-next : {B : Type 0} (q : B → Curve) (rows : List B) (i : ℕ) (b : B
 total-next q rows i b s k d within read =
     let pushed : take (i + 1) rows ≡ take i rows ++ (b ∷ []) = take-more rows i b within ∙ ap (λ y. take i rows ++ (y ∷ [])) (sym read) in
     sym (ap (λ xs. total q xs (all-at s k) d) pushed ∙ total-append q (take i rows) (b ∷ []) s k d ∙ ap (λ n. total q (take i rows) (all-at s k) d + n) (total-one q b s k d))
+
+-- one row, all rows at the same factors
+pub at-row-is : {B : Type 0} (q : B → Curve) (rows : List B) (i : ℕ) (b : B) (s k d : ℕ) → i < length rows → b ≡ getD rows i b → at-row q rows (all-at s k) i d ≡ q b s k d
+unfolding at-row
+at-row-is q [] i b s k d h e = absurd (omega arith)
+at-row-is q (x ∷ xs) zero b s k d h e = ap (λ y. q y s k d) (sym e)
+at-row-is q (x ∷ xs) (suc i) b s k d h e = at-row-is q xs i b s k d (omega arith) e

@@ -9,13 +9,14 @@ use Rattle.std.specs.declared.option.Option.the-variants.{Some, None}
 use Rattle.std.specs.declared.result.Result.{Result}
 use Rattle.std.specs.declared.result.Result.the-variants.{Ok, Err}
 use Rattle.bearing.specs.declared.fault.Fault.{Fault}
-use Rattle.bearing.specs.declared.fault.Refusal.the-variants.{NoRows, BeyondRange}
+use Rattle.bearing.specs.declared.fault.Refusal.the-variants.{NoRows, BeyondRange, NoSuchRow}
 use Rattle.bearing.specs.declared.fault.Layer.the-variants.{Bridge}
 use Rattle.bearing.specs.Refusals.{plain-fault}
+use Rattle.bearing.specs.Ranges.{between}
 use Rattle.bearing.specs.Laws.{Curve}
 use Rattle.bridge.specs.declared.loads.CaseNumbers.{CaseNumbers}
 use Rattle.bridge.specs.Making.{demand}
-use Rattle.bridge.specs.Sums.{Choice, all-at, total, met}
+use Rattle.bridge.specs.Sums.{Choice, all-at, at-row, total, met}
 use Rattle.bridge.specs.Design.{design}
 use Rattle.bridge.specs.Outcomes.{Values}
 
@@ -63,3 +64,18 @@ module _ {B R : Type 0} (force energy : B → Curve) (says : R → ℕ → ℕ �
   -- a query
   abbrev pub queried : CaseNumbers R → Result Values Fault
   queried c = cond (ltb 0 (length rows)) (answer-at c (design (meets c (lowest c)))) (Err (plain-fault NoRows Bridge))
+
+  -- the force of the row in place i, counted from 0, at the highest factors at dlow, in newtons
+  abbrev pub row-force-at : CaseNumbers R → ℕ → ℕ → ℕ
+  row-force-at c i dlow = at-row force rows (highest c) i dlow
+
+  abbrev pub row-answer-at : CaseNumbers R → ℕ → Option ℕ → Result ℕ Fault
+  row-answer-at c n (Some dlow) = Ok (row-force-at c (n - 1) dlow)
+  row-answer-at c n None = Err (plain-fault BeyondRange Bridge)
+
+  -- a row query: rows are numbered from 1 to their count
+  abbrev pub row-queried : CaseNumbers R → ℕ → Result ℕ Fault
+  row-queried c n =
+      cond (ltb 0 (length rows))
+      (cond (between 1 (length rows) n) (row-answer-at c n (design (meets c (lowest c)))) (Err (plain-fault NoSuchRow Bridge)))
+      (Err (plain-fault NoRows Bridge))

@@ -1,14 +1,14 @@
 -- The law of bounds: what an answered load case says of every choice of factors that the case allows. Assumes nothing.
 use mathlib.Core.Path.{_≡_}
-use mathlib.Core.Logic.{_↔_}
+use mathlib.Core.Logic.{_⊎_, _↔_}
 use mathlib.Core.Bool.{Bool, true, false}
 use mathlib.Core.List.{List}
-use Prim.Native.Nat.{ℕ, _≤_, _<_}
+use Prim.Native.Nat.{ℕ, _-_, _≤_, _<_}
 use lib.ListN.{length}
 use Rattle.std.specs.declared.result.Result.{Result}
 use Rattle.std.specs.declared.result.Result.the-variants.{Ok}
 use Rattle.bearing.specs.declared.fault.Fault.{Fault}
-use Rattle.bearing.specs.declared.fault.Refusal.the-variants.{NoRows, BeyondRange}
+use Rattle.bearing.specs.declared.fault.Refusal.the-variants.{NoRows, BeyondRange, NoSuchRow}
 use Rattle.bearing.specs.Refusals.{number-of}
 use Rattle.bearing.specs.Laws.{Curve}
 use Rattle.bridge.specs.declared.loads.CaseNumbers.{CaseNumbers}
@@ -16,7 +16,7 @@ use Rattle.bridge.specs.declared.replies.Answer.{Answer}
 use Rattle.bridge.specs.Sums.{Factors, Choice, at-row, total}
 use Rattle.bridge.specs.Design.{Design, Absent}
 use Rattle.bridge.specs.Answers.{lowest, highest, clearance, restoring, half-of, meets}
-use Rattle.bridge.specs.Outcomes.{Outcome, Refused, outcome}
+use Rattle.bridge.specs.Outcomes.{Outcome, Refused, outcome, RowOutcome, RowAnswered, RowRefused, row-outcome}
 
 -- factors that a case allows
 pub record Inside {R : Type 0} (c : CaseNumbers R) (f : Factors) : Type 0 where
@@ -54,3 +54,11 @@ module _ {B R : Type 0} (force energy : B → Curve) (says : R → ℕ → ℕ �
     pub no-rows : length rows ≡ 0 → outcome r ≡ Refused (number-of NoRows)
     pub beyond : 1 ≤ length rows → (outcome r ≡ Refused (number-of BeyondRange)) ↔ NoneMeets c
     pub otherwise : 1 ≤ length rows → (NoneMeets c → ⊥) → (a : Answer) × (r ≡ Ok a) × Covers c a
+
+  -- a row query: the same, with a row number that is there; it answers that row's force at the highest factors at dlow
+  pub record RowLaw (c : CaseNumbers R) (n : ℕ) (r : Result ℕ Fault) : Type 0 where
+    pub no-rows : length rows ≡ 0 → row-outcome r ≡ RowRefused (number-of NoRows)
+    pub no-row : 1 ≤ length rows → (n < 1) ⊎ (length rows < n) → row-outcome r ≡ RowRefused (number-of NoSuchRow)
+    pub beyond : 1 ≤ n → n ≤ length rows → (row-outcome r ≡ RowRefused (number-of BeyondRange)) ↔ NoneMeets c
+    pub otherwise : 1 ≤ n → n ≤ length rows → (NoneMeets c → ⊥) →
+      (a : Answer) × (row-outcome r ≡ RowAnswered (at-row force rows (highest c) (n - 1) (a .dlow))) × Covers c a

@@ -46,3 +46,12 @@ outcome-number (Refused n) = n
 
 abbrev pub outcome : Result Answer Fault → Outcome
 outcome r = outcome-of (reported r)
+
+-- what a row query comes to: 0 and the row's force in newtons, or the number of its refusal
+pub data RowOutcome : Type 0 where
+  RowAnswered : ℕ → RowOutcome
+  RowRefused : ℕ → RowOutcome
+
+abbrev pub row-outcome : Result ℕ Fault → RowOutcome
+row-outcome (Ok f) = RowAnswered f
+row-outcome (Err e) = RowRefused (number-of (e .refusal))

@@ -2,7 +2,7 @@ ghost use mathlib.Core.Path.{_≡_};
 ghost use mathlib.Core.List.{[]};
 ghost use Prim.Native.Nat.{min};
 ghost use lib.ListN.{length};
-ghost use Rattle.bridge.specs.Lists.{items, capacity, pushed, push-answer};
+ghost use Rattle.bridge.specs.Lists.{items, capacity, pushed, push-answer, popped, pop-answer};
 use crate::places::Listing;
 use crate::weighing::Weight;
 use bearing::Fault;
@@ -40,6 +40,16 @@ impl<'a, B: Copy> Draft<'a, B> {
         ensures weight { λ _. ⌜ now (self .exit) .weight ≡ now (self .entry) .weight ⌝ }
     {
         self.rows.push(row)
+    }
+
+    // Takes the last row off; its place serves again.
+    pub fn take_off(&mut self) -> Result<(), Fault>
+        ensures answer { λ r. ⌜ r ≡ pop-answer (items (now (self .entry) .rows)) ⌝ }
+        ensures list { λ _. ⌜ items (now (self .exit) .rows) ≡ popped (items (now (self .entry) .rows)) ⌝ }
+        ensures places { λ _. ⌜ capacity (now (self .exit) .rows) ≡ capacity (now (self .entry) .rows) ⌝ }
+        ensures weight { λ _. ⌜ now (self .exit) .weight ≡ now (self .entry) .weight ⌝ }
+    {
+        self.rows.take_off()
     }
 
     // Uses the draft up and gives the closed bridge.

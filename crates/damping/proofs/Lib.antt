@@ -1,3 +1,4 @@
 pub mod Remainders
 pub mod Lines
 pub mod Growth
+pub mod Reduction

@@ -12,6 +12,7 @@ ghost use Rattle.sheet.specs.Reading.{AllMade};
 ghost use Rattle.page.specs.Text.{case-line};
 ghost use Rattle.page.specs.Pages.{begun-len, line-answer, lined, lined-len, lined-count};
 ghost use Rattle.page.specs.Runs.{page-run};
+ghost use Rattle.deck.specs.Lawful.{PageLaw};
 ghost use Rattle.deck.specs.Whole.{row-force, row-energy, rule-says, case-outcome, outcomes, one-if-answered, answered, lines-answer, page-done, refusal-done, job};
 use crate::spare::spare_case;
 use bearing::EitherBearing;
@@ -126,6 +127,7 @@ pub fn answer_sheet(sheet: &[u8], page: &mut [u8]) -> Job
     ensures bytes { λ _. ⌜ now (page .exit) ≡ job (now (sheet .entry)) (now (page .entry)) .bytes ⌝ }
     ensures written { λ r. ⌜ r .written ≡ job (now (sheet .entry)) (now (page .entry)) .written ⌝ }
     ensures result { λ r. ⌜ r .result ≡ job (now (sheet .entry)) (now (page .entry)) .result ⌝ }
+    ensures law { λ _. ⌜ PageLaw (now (sheet .entry)) ⌝ }
 {
     let mut row_places = [spare_row(); 64];
     let mut case_places = [spare_case(); 16];

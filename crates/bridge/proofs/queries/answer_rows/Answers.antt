@@ -21,8 +21,9 @@ unwrap-dhigh-requires g c κs =
 pub returns-in-rest : need.returns-in-rest
 returns-in-rest g c =
     let some : 0 < length (c .args .rows .now) = omega arith in
-    sym (refused-is (g .B·Bearing .force) (g .B·Bearing .energy) (g .R·DampingRule .says) (c .args .rows .now) (c .args .weight .kn) (c .args .case .now .numbers)
-      (c .demand-demand .result) (c .demand-demand .ensures .value) some (c .in-rest .ensures tt))
+    let whole = refused-is (g .B·Bearing .force) (g .B·Bearing .energy) (g .R·DampingRule .says) (c .args .rows .now) (c .args .weight .kn) (c .args .case .now .numbers)
+          (c .demand-demand .result) (c .demand-demand .ensures .value) some (c .in-rest .ensures tt) in
+    cc
 
 pub returns : need.returns
 returns g c =

@@ -5,6 +5,7 @@ use Rattle.bridge.specs.declared.weighing.Weight.{Weight}
 use Rattle.bridge.specs.Lists.{items, capacity}
 use Rattle.deck.specs.Whole.{Done}
 use Rattle.deck.proofs.Contents.{accepted, refused}
+use Rattle.deck.proofs.Bounding.{page-law}
 use Rattle.deck.proofs.job.answer_sheet.Needs as need
 
 pub returns-in-Ok : need.returns-in-Ok
@@ -21,6 +22,7 @@ returns-in-Ok c =
       bytes = c .write-page .ensures .bytes ∙ ap (λ (x : Done). x .bytes) (d .1);
       written = c .write-page .ensures .written ∙ ap (λ (x : Done). x .written) (d .1);
       result = c .write-page .ensures .result ∙ ap (λ (x : Done). x .result) (d .1);
+      law = page-law (c .args .sheet .now);
     }
 
 pub returns-in-Err : need.returns-in-Err
@@ -33,4 +35,5 @@ returns-in-Err c =
       bytes = c .refuse .ensures .bytes ∙ ap (λ (x : Done). x .bytes) d;
       written = c .refuse .ensures .written ∙ ap (λ (x : Done). x .written) d;
       result = c .refuse .ensures .result ∙ ap (λ (x : Done). x .result) d;
+      law = page-law (c .args .sheet .now);
     }

@@ -23,7 +23,7 @@ returns g c =
     let w = c .args .weight .kn in
     let is : c .coefficient .result ≡ site-tenths (c .args .self .now .numbers .site) = c .coefficient .ensures in
     record {
-      low = demanded-low (c .args .self .now .numbers .accel) (c .coefficient .result) (c .kilonewtons .result) (omega arith) (omega (arith, site-low (c .args .self .now .numbers .site))) (omega arith);
-      top = demanded-top (c .args .self .now .numbers .accel) (c .coefficient .result) (c .kilonewtons .result) (omega arith) (omega (arith, site-top (c .args .self .now .numbers .site))) (omega arith);
+      low = omega (arith, demanded-low (c .args .self .now .numbers .accel) (c .coefficient .result) (c .kilonewtons .result) (omega arith) (omega (arith, site-low (c .args .self .now .numbers .site))) (omega arith));
+      top = omega (arith, demanded-top (c .args .self .now .numbers .accel) (c .coefficient .result) (c .kilonewtons .result) (omega arith) (omega (arith, site-top (c .args .self .now .numbers .site))) (omega arith));
       value = cc;
     }
