@@ -1,3 +1,5 @@
+ghost use mathlib.Core.Path.{_≡_};
+ghost use Rattle.deckpage.specs.Words.{plural-ending, words-of};
 use bearing::Refusal;
 
 pub const HELP: &str = "usage: deckpage < SHEET > PAGE
@@ -25,12 +27,16 @@ docs/FORMATS.md and docs/REFUSALS.md have the whole of it.
 ";
 
 // The ending of a word for n things.
-pub fn plural(n: usize) -> &'static str {
+pub fn plural(n: usize) -> &'static str
+    ensures { λ r. ⌜ now r ≡ plural-ending n ⌝ }
+{
     if n == 1 { "" } else { "s" }
 }
 
 // A refusal in plain words.
-pub fn reason(refusal: Refusal) -> &'static str {
+pub fn reason(refusal: Refusal) -> &'static str
+    ensures { λ r. ⌜ now r ≡ words-of refusal ⌝ }
+{
     match refusal {
         Refusal::OutOfRange => "a number outside its range",
         Refusal::LeadTooWide => "the lead is wider than a third of the bonded diameter",

@@ -51,7 +51,7 @@ fn outcome(sheet: &[u8], row_places: usize, case_places: usize) -> Result<[usize
 }
 
 // Row lines with the number, layer and field that line 4 of a sheet with them gives.
-const ROWS: [(&str, [usize; 4]); 21] = [
+const ROWS: [(&str, [usize; 4]); 24] = [
     ("P,4,1000,60,1000,0,0\n", [0, 0, 1, 1]),
     ("L,1,100,114,500,62,150\n", [0, 0, 1, 1]),
     ("L,1,166,114,500,62,150\n", [0, 0, 1, 1]),
@@ -65,6 +65,9 @@ const ROWS: [(&str, [usize; 4]); 21] = [
     ("P,0,1000,60,1000,0,0\n", [1, 2, 4, 2]),
     ("P,21,9,60,1000,0,0\n", [1, 2, 4, 2]),
     ("P,1,9,60,1000,0,0\n", [1, 1, 4, 3]),
+    ("P,1,9,60,1000,5,0\n", [1, 1, 4, 3]),
+    ("L,1,401,114,500,62,150\n", [1, 1, 4, 3]),
+    ("L,1,400,200,1199,200,20\n", [2, 1, 4, 0]),
     ("P,1,20000,200,200,5,0\n", [1, 1, 4, 6]),
     ("P,1,1000,60,1000,0,5\n", [1, 1, 4, 7]),
     ("L,1,100,114,500,62,19\n", [1, 1, 4, 7]),
@@ -142,6 +145,10 @@ fn places(rt: LibcRuntime) -> Result<(), Fail> {
     let one = joined(&rt, &[NAMES, ROW, CASES, CASE])?;
     check_eq(outcome(one.as_bytes(), 0, 16)?, [4, 2, 4, 0])?;
     check_eq(outcome(one.as_bytes(), 1, 0)?, [4, 2, 6, 0])?;
+    let strong = joined(&rt, &[NAMES, "P,2,20000,200,300,0,0\n"])?;
+    check_eq(outcome(strong.as_bytes(), 0, 16)?, [3, 2, 4, 0])?;
+    let reversed = joined(&rt, &[NAMES, ROW, CASES, "1,30,II,121,120,100,100,T\n"])?;
+    check_eq(outcome(reversed.as_bytes(), 1, 0)?, [7, 2, 6, 0])?;
     let mut sheet = joined(&rt, &[NAMES])?;
     for _ in 0..64 {
         sheet.push_str(ROW)?;

@@ -10,8 +10,8 @@ use Rattle.std.specs.declared.result.Result.the-variants.{Ok, Err}
 use Rattle.bearing.specs.declared.fault.Fault.{Fault}
 use Rattle.bridge.specs.Lists.{items}
 use Rattle.bridge.specs.Making.{with-ok}
-use Rattle.page.specs.Text.{case-line}
-use Rattle.page.specs.Pages.{begun-len, line-answer}
+use Rattle.page.specs.Text.{case-line, end-line, void-line}
+use Rattle.page.specs.Pages.{begun-len, line-answer, closed, closed-len}
 use Rattle.page.specs.Runs.{page-run}
 use Rattle.deck.specs.Whole.{case-outcome, outcomes, one-if-answered, answered, lines-answer}
 use Rattle.deck.proofs.Lines.{past, end-begun, ok-by, one-at-most, made-at, turn-taken, turn-voided, turns-ended}
@@ -41,8 +41,8 @@ returns-in-Err c =
             (c .in-Err .ensures tt .result) (c .in-Err .ensures tt .bytes) (c .in-Err .ensures tt .len)
         ∙ c .loop-numbers .inv .1
         ∙ end-begun (c .args .buffer .now) (now (c .begin-page .result .buffer)) (c .begin-page .result .len) (c .begin-page .result .cases) os (c .begin-page .ensures .bytes) (c .begin-page .ensures .len) (c .begin-page .ensures .cases) in
-    let q : c .void .last .self .0 ≡ page-run (c .args .buffer .now) os .0 = c .void .ensures .bytes ∙ ap (λ (p : (List ℕ × ℕ) × Result ℕ Fault). p .0 .0) s in
-    let v : c .void .result ≡ page-run (c .args .buffer .now) os .1 = c .void .ensures .value ∙ ap (λ (p : (List ℕ × ℕ) × Result ℕ Fault). p .0 .1) s in
+    let q : closed (now (c .write-case .last .page .buffer)) (c .write-case .last .page .len) void-line ≡ page-run (c .args .buffer .now) os .0 = ap (λ (p : (List ℕ × ℕ) × Result ℕ Fault). p .0 .0) s in
+    let v : closed-len (length (now (c .write-case .last .page .buffer))) (c .write-case .last .page .len) void-line ≡ page-run (c .args .buffer .now) os .1 = ap (λ (p : (List ℕ × ℕ) × Result ℕ Fault). p .0 .1) s in
     let t : Err (c .in-Err .fault) ≡ with-ok (lines-answer (length (c .args .buffer .now)) (begun-len (length (c .args .buffer .now))) 0 os) (λ _. answered os) = ap (λ (p : (List ℕ × ℕ) × Result ℕ Fault). p .1) s in
     search needs
 
@@ -68,7 +68,7 @@ returns c =
     let s = turns-ended rows W (now (c .loop-numbers .page .buffer)) (c .loop-numbers .page .len) (c .loop-numbers .page .cases) (c .loop-numbers .answered) (c .loop-numbers .numbers-index) (c .args .cases .now) l
         ∙ c .loop-numbers .inv .1
         ∙ end-begun (c .args .buffer .now) (now (c .begin-page .result .buffer)) (c .begin-page .result .len) (c .begin-page .result .cases) os (c .begin-page .ensures .bytes) (c .begin-page .ensures .len) (c .begin-page .ensures .cases) in
-    let q : c .end .last .self .0 ≡ page-run (c .args .buffer .now) os .0 = c .end .ensures .bytes ∙ ap (λ (p : (List ℕ × ℕ) × Result ℕ Fault). p .0 .0) s in
-    let v : c .end .result ≡ page-run (c .args .buffer .now) os .1 = c .end .ensures .value ∙ ap (λ (p : (List ℕ × ℕ) × Result ℕ Fault). p .0 .1) s in
+    let q : closed (now (c .loop-numbers .page .buffer)) (c .loop-numbers .page .len) (end-line (c .loop-numbers .page .cases)) ≡ page-run (c .args .buffer .now) os .0 = ap (λ (p : (List ℕ × ℕ) × Result ℕ Fault). p .0 .0) s in
+    let v : closed-len (length (now (c .loop-numbers .page .buffer))) (c .loop-numbers .page .len) (end-line (c .loop-numbers .page .cases)) ≡ page-run (c .args .buffer .now) os .1 = ap (λ (p : (List ℕ × ℕ) × Result ℕ Fault). p .0 .1) s in
     let t : Ok (c .loop-numbers .answered) ≡ with-ok (lines-answer (length (c .args .buffer .now)) (begun-len (length (c .args .buffer .now))) 0 os) (λ _. answered os) = ap (λ (p : (List ℕ × ℕ) × Result ℕ Fault). p .1) s in
     search needs
