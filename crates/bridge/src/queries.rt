@@ -55,7 +55,8 @@ fn row_force<B: Bearing, R: DampingRule>(rows: &[B], weight: Weight, case: &Case
     let Some(dlow) = find(rows, &c.rule, c.slo as u16, c.klo as u16, demand) else {
         return Err(query_fault(Refusal::BeyondRange));
     };
-    let (force, _) = rows[n - 1].answer(c.shi as u16, c.khi as u16, dlow);
+    let i = n - 1;
+    let (force, _) = rows[i].answer(c.shi as u16, c.khi as u16, dlow);
     Ok(force)
 }
 

@@ -18,7 +18,11 @@ loop-i-again g c =
     let r = c .put .result in
     let nr = put-next (c .loop-i .responses) (c .loop-i .i) r (omega arith) in
     let nq = one-taken (c .args .questions .now) (c .loop-i .i) q (c .loop-i-test .taken) (c .index-questions-i .is) in
-    (ap (map response-values) nr ∙ map-append response-values rs r ∙ ap₂ (λ a x. a ++ (x ∷ [])) (c .loop-i .inv .0) (c .put .ensures .values) ∙ sym (ap (map f) nq ∙ map-append f qs q),
+    let mr = map-append response-values rs r in
+    let mq = map-append f qs q in
+    let so-far = c .loop-i .inv .0 in
+    let here = c .put .ensures .values in
+    (cc,
      subst₂ (Each L) (sym nq) (sym nr) (each-append L qs rs q r (c .loop-i .inv .1) (c .put .ensures .law)))
 
 pub returns : need.returns

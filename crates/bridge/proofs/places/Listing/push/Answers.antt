@@ -9,6 +9,6 @@ use Rattle.bridge.proofs.places.Listing.push.Needs as need
 pub returns : need.returns
 returns g c = record {
   answer = grind (arith, tells);
-  list = push-written _ _ _ _ _ (c .len-n .ensures) (c .if-n .left) (c .if-n-self .left);
+  list = let e = push-written (c .len-n .result) (min (c .args .self .now .count) (g .MAX)) (g .MAX) (c .args .self .now .places .now) (c .args .x) (c .len-n .ensures) (c .if-n .left) (c .if-n-self .left) in cc;
   places = ap (min (g .MAX)) (length-set _ _ _);
 }

@@ -14,6 +14,6 @@ returns-then-n-eq0 g c = record {
 pub returns : need.returns
 returns g c = record {
   answer = grind (arith, tells);
-  list = pop-taken _ _ _ _ (c .len-n .ensures);
+  list = let e = pop-taken (c .len-n .result) (c .args .self .now .count) (g .MAX) (c .args .self .now .places .now) (c .len-n .ensures) in cc;
   places = refl;
 }
