@@ -47,7 +47,7 @@ pub fn check_count(count: u32) -> Result<(), Fault>
 
 impl<B: Bearing + Copy> Group<B> {
     pub fn new(count: u32, member: B) -> Result<Group<B>, Fault>
-        ensures { result ≡ group_made force count member }
+        ensures { result ≡ group_made B.force count member }
     {
         check_count(count)?;
         let (greatest, _) = member.answer(TOP_FACTOR, TOP_FACTOR, TOP_TRAVEL);
@@ -64,7 +64,7 @@ impl<B: Bearing + Copy> Group<B> {
 impl<B: Bearing> Group<B> {
     // How many bearings the group counts as: 1 where so many would be above the limit. A single one never is.
     fn counts_as(&self) -> u64
-        ensures value { result ≡ counted self.now.count (force self.now.member) }
+        ensures value { result ≡ counted self.now.count (B.force self.now.member) }
         ensures few { result ≤ 255 }
     {
         let n = self.count as u64;

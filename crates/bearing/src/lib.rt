@@ -1,6 +1,8 @@
 // What a bearing is: force and energy behind one trait with four laws, either of two kinds, groups, the ranges, and
 // why a call is refused.
 
+#![tactic(auto)]
+
 mod compound;
 mod fault;
 mod ranges;

@@ -1,6 +1,6 @@
 -- The scan finds the design displacement, or there is none. Assumes nothing.
 use Rattle.std.proofs.Common.{◌≡◌, ℕ, zero, suc, ◌+◌, ◌-◌, ◌/◌, ◌^◌, ◌<◌, ◌≤◌, Bool, true, false, cond, ◌⊎◌, Some, None, Option, sym, refl, ap, ◌∙◌, inl, inr, ⊎_elim, eq-or-lt_of_le, arith}
-use native.Mathlib.Nat.{two_pow_succ}
+use Rattle.std.proofs.Math.Nat.{two-pow-succ}
 use Rattle.bridge.specs.Design.{Design, Absent, first_from, design}
 
 pub record First (meets : ℕ → Bool) (n d x : ℕ) : Type 0 where
@@ -89,7 +89,7 @@ misses_below m rises e j low high miss = go (m j) refl
 pub halved : (w x t : ℕ) → t < 14 → w < 2 ^ (14 - t) → x ≤ w / 2 → x < 2 ^ (14 - (t + 1))
 halved w x t turn below half =
     let e : 14 - t ≡ suc (14 - (t + 1)) = omega arith in
-    let p : 2 ^ (14 - t) ≡ 2 ^ (14 - (t + 1)) + 2 ^ (14 - (t + 1)) = ap (λ n. 2 ^ n) e ∙ two_pow_succ (14 - (t + 1)) in
+    let p : 2 ^ (14 - t) ≡ 2 ^ (14 - (t + 1)) + 2 ^ (14 - (t + 1)) = ap (λ n. 2 ^ n) e ∙ two-pow-succ (14 - (t + 1)) in
     omega (arith, p, below, half)
 
 -- after all turns nothing is left

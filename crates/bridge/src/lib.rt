@@ -1,5 +1,7 @@
 // A bridge: a draft on which rows are hung and taken off, the closed bridge that only answers, and whole runs of calls.
 
+#![tactic(auto)]
+
 mod calls;
 mod drafting;
 mod queries;

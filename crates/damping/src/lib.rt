@@ -1,5 +1,7 @@
 // What a damping rule is: a yes or no behind one trait with two laws; the AASHTO table, EN 1998-1, either of two.
 
+#![tactic(auto)]
+
 mod either;
 mod eurocode;
 mod fractions;

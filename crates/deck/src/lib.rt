@@ -1,4 +1,7 @@
 // The whole job: a sheet in, a page out.
+
+#![tactic(auto)]
+
 mod job;
 mod spare;
 

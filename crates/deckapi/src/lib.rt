@@ -1,4 +1,7 @@
 // The whole job for C and for whoever can call C: a static library with one function.
+
+#![tactic(auto)]
+
 ghost use Rattle.std.specs.Prelude.{◌≡◌};
 ghost use Rattle.deck.specs.Whole.{job};
 ghost use Rattle.deckapi.specs.Calling.{refusal_number};

@@ -1,4 +1,7 @@
 // deckpage: a sheet on standard input, its page on standard output, and in plain words on standard error what it did.
+
+#![tactic(auto)]
+
 ghost use Rattle.std.specs.Prelude.{◌≡◌, ◌≤◌, true, false, length, is_ok, IfOk, Ok, Err};
 ghost use Rattle.deckpage.specs.declared.Stopped.TheVariants.{Refused, Failed};
 ghost use Rattle.deckpage.specs.Answering.{job_of};

@@ -1,4 +1,7 @@
 // Worked figures, proved of the definitions that the contracts of the other crates name.
+
+#![tactic(auto)]
+
 ghost use Rattle.std.specs.Prelude.{◌≡◌};
 ghost use Rattle.figures.specs.Worked.{Figures};
 

@@ -1,5 +1,7 @@
 // The kinds of bearing that are made now: lead-rubber and pendulum.
 
+#![tactic(auto)]
+
 mod lead;
 mod sliding;
 

@@ -1,5 +1,7 @@
 // What a bridge has to bear: the deck's weight, a load case, and the demand of the two.
 
+#![tactic(auto)]
+
 mod cases;
 mod loads;
 mod weighing;

@@ -1,4 +1,7 @@
 // The page that other programs read: a line of names, a line for each load case, and a last line.
+
+#![tactic(auto)]
+
 mod digits;
 mod lines;
 mod paper;

@@ -1,5 +1,7 @@
 // Bytes of a sheet to its weight, rows and load cases, or to the refusal.
 
+#![tactic(auto)]
+
 mod caselines;
 mod drafts;
 mod machine;

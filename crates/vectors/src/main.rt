@@ -1,6 +1,9 @@
 // Answers many sheets in one run. Standard input has, for each sheet, a line with its length and then that many bytes;
 // standard output gets, for each, a line `sheet N`, counted from 1, and its page. The stored output is made by the
 // second program (second/vectors.py).
+
+#![tactic(auto)]
+
 ghost use Rattle.std.specs.Prelude.{◌≡◌};
 ghost use Rattle.std.specs.Option.{option_map};
 ghost use Rattle.vectors.specs.Framed.{next_framed};

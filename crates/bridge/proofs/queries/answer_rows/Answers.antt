@@ -15,11 +15,11 @@ unwrap-dhigh-requires g c =
     c.args.case.now.sordered c.args.case.now.kordered c.demand-demand.ensures.low c.demand-demand.ensures.top
     c.in-Some.dlow c.find-2.result c.in-Some.ensures c.find-2.ensures
 
-pub returns-in-default : goal.returns-in-default
-returns-in-default g c =
+pub returns-in_default : goal.returns-in_default
+returns-in_default g c =
     let some : 0 < length c.args.rows.now = omega arith in
     let whole = refused_is g.B.Bearing.force g.B.Bearing.energy g.R.DampingRule.says c.args.rows.now c.args.weight.kn c.args.case.now.numbers
-    c.demand-demand.result c.demand-demand.ensures.value some c.in-default.ensures in
+    c.demand-demand.result c.demand-demand.ensures.value some c.in_default.ensures in
     cc
 
 pub returns : goal.returns

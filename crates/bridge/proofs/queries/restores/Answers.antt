@@ -3,8 +3,8 @@ use Rattle.bridge.specs.Sums.{total, all_at}
 use Rattle.bridge.proofs.Totals.{total_grows, total_limit}
 use Rattle.bridge.proofs.queries.restores.Goals as goal
 
-pub overflow-sub-result : goal.overflow-sub-result
-overflow-sub-result g c =
+pub overflow_sub-result : goal.overflow_sub-result
+overflow_sub-result g c =
     let w = c.totals-whole.ensures.forces in
     let h = c.totals-half.ensures.forces in
     omega (
@@ -13,7 +13,7 @@ overflow-sub-result g c =
           (λ i _. record { s_below = le_refl _; k_below = le_refl _ }) (omega arith),
     )
 
-pub overflow-mul-result : goal.overflow-mul-result
-overflow-mul-result g c =
+pub overflow_mul-result : goal.overflow_mul-result
+overflow_mul-result g c =
     let w = c.totals-whole.ensures.forces in
     omega (arith, total_limit g.met.B.Bearing.laws c.args.rows.now (all_at c.args.s c.args.k) c.args.dlow)

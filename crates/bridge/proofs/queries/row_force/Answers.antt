@@ -5,10 +5,10 @@ use Rattle.bridge.proofs.Totals.{at_row_is}
 use Rattle.bridge.proofs.Answering.{row_refused_is, row_answered_is}
 use Rattle.bridge.proofs.queries.row_force.Goals as goal
 
-pub returns-in-default : goal.returns-in-default
-returns-in-default g c =
+pub returns-in_default : goal.returns-in_default
+returns-in_default g c =
     let whole = row_refused_is g.B.Bearing.force g.B.Bearing.energy g.R.DampingRule.says c.args.rows.now c.args.weight.kn c.args.case.now.numbers
-    c.demand-demand.result c.demand-demand.ensures.value c.args.n (omega arith) (omega arith) c.in-default.ensures in
+    c.demand-demand.result c.demand-demand.ensures.value c.args.n (omega arith) (omega arith) c.in_default.ensures in
     cc
 
 pub returns : goal.returns

@@ -7,4 +7,4 @@ abbrev pub invariant-loop-turn : goal.invariant-loop-turn
 invariant-loop-turn g l =
     let m = met g.B.Bearing.force g.B.Bearing.energy (g.R.DampingRule.says l.rule) l.rows (all_at l.s l.k) l.demand in
     (1 ≤ l.lo) × (l.lo ≤ l.hi) × (l.hi ≤ 10001) × (l.hi ≤ 10000 → m l.hi ≡ true) × ((j : ℕ) → 1 ≤ j → j < l.lo → m j ≡ false) ×
-    (l.hi - l.lo < 2 ^ (14 - l.-turn)) × (l.-turn ≤ 14)
+    (l.hi - l.lo < 2 ^ (14 - l._turn)) × (l._turn ≤ 14)

@@ -3,8 +3,8 @@ use Rattle.bridge.specs.Sums.{total, all_at, met}
 use Rattle.bridge.proofs.Totals.{product_top}
 use Rattle.bridge.proofs.search.is_met.Goals as goal
 
-pub overflow-mul-d : goal.overflow-mul-d
-overflow-mul-d g c =
+pub overflow_mul-d : goal.overflow_mul-d
+overflow_mul-d g c =
     let f = ap (λ (x : ℕ). c.args.d * x) c.totals-f.ensures.forces in
     omega (arith, product_top g.met.B.Bearing.laws c.args.rows.now (all_at c.args.s c.args.k) c.args.d c.requires.few c.requires.near)
 

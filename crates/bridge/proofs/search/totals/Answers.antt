@@ -6,14 +6,14 @@ use Rattle.bridge.proofs.search.totals.Goals as goal
 pub loop-b-init : goal.loop-b-init
 loop-b-init g c = (omega arith, sym (total_none g.B.Bearing.force _ _ _), sym (total_none g.B.Bearing.energy _ _ _), omega arith, omega arith)
 
-pub overflow-add-f : goal.overflow-add-f
-overflow-add-f g c =
+pub overflow_add-f : goal.overflow_add-f
+overflow_add-f g c =
     let x = ap (λ (p : ℕ × ℕ). p.0) c.answer-x.ensures in
     let few : c.loop-b.b-index ≤ 64 = omega arith in
     omega (arith, (g.met.B.Bearing.laws c.b-item.result).force_limit c.args.s c.args.k c.args.d)
 
-pub overflow-add-e : goal.overflow-add-e
-overflow-add-e g c =
+pub overflow_add-e : goal.overflow_add-e
+overflow_add-e g c =
     let y = ap (λ (p : ℕ × ℕ). p.1) c.answer-x.ensures in
     let few : c.loop-b.b-index ≤ 64 = omega arith in
     omega (arith, energy_limit g.met.B.Bearing.laws c.b-item.result c.args.s c.args.k c.args.d c.requires.near)

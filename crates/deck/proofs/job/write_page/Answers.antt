@@ -10,7 +10,7 @@ returns-in-Ok c =
     let rows = items c.args.bridge.now.rows in
     let W = c.args.bridge.now.weight.kn in
     let size = length c.args.page.now in
-    let sum = summed rows W c.args.cases.now (lines_answer size (begun_len size) 0 (outcomes rows W c.args.cases.now)) c.args.rows c.in-Ok.answered c.requires.rows (sym c.in-Ok.is ∙ c.write-cases-written.ensures.result) in
+    let sum = summed rows W c.args.cases.now (lines_answer size (begun_len size) 0 (outcomes rows W c.args.cases.now)) c.args.rows c.in-Ok.answered c.requires.rows (sym c.in-Ok.is ∙ c.write_cases-written.ensures.result) in
     search rules
 
 pub returns-in-Err : goal.returns-in-Err
@@ -19,5 +19,5 @@ returns-in-Err c =
     let W = c.args.bridge.now.weight.kn in
     let size = length c.args.page.now in
     let os = outcomes rows W c.args.cases.now in
-    let none = unsummed rows os (lines_answer size (begun_len size) 0 os) c.in-Err.fault (sym c.in-Err.is ∙ c.write-cases-written.ensures.result) in
+    let none = unsummed rows os (lines_answer size (begun_len size) 0 os) c.in-Err.fault (sym c.in-Err.is ∙ c.write_cases-written.ensures.result) in
     search rules

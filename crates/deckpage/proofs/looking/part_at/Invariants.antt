@@ -4,4 +4,4 @@ use Rattle.deckpage.proofs.looking.part_at.Given as goal
 
 -- the part that is looked for is the same of what is left
 abbrev pub invariant-loop-i : goal.invariant-loop-i
-invariant-loop-i l = get_or (parts l.mark l.left) (l.n - l.-i) [] ≡ get_or (parts l.mark l.text) (l.n - 1) []
+invariant-loop-i l = get_or (parts l.mark l.left) (l.n - l._i) [] ≡ get_or (parts l.mark l.text) (l.n - 1) []

@@ -8,21 +8,21 @@ slip-top q s hq hs = le_trans (div-le_self (q * s) 100) (mul-le q s 2300000 300 
 hard-top : (r k y : ℕ) → r ≤ 200000 → k ≤ 300 → y ≤ 25000000 → r * k * y ≤ 1500000000000000
 hard-top r k y hr hk hy = mul-le (r * k) y 60000000 25000000 (mul-le r k 200000 300 hr hk) hy
 
-pub overflow-mul-result-then-yields-d : goal.overflow-mul-result-then-yields-d
-overflow-mul-result-then-yields-d c =
+pub overflow_mul-result-then-yields-d : goal.overflow_mul-result-then-yields-d
+overflow_mul-result-then-yields-d c =
     let q = c.args.strength * c.args.s / 100 in
     omega (arith, mul-le q (c.args.d - c.args.yields) 690000000 10000 (slip-top c.args.strength c.args.s c.requires.strength c.requires.s) (omega arith))
 
-pub overflow-mul-result-else-yields-d : goal.overflow-mul-result-else-yields-d
-overflow-mul-result-else-yields-d c = omega (arith, hard-top c.args.stiffness c.args.k c.args.yields c.requires.stiffness c.requires.k c.requires.yields-top)
+pub overflow_mul-result-else-yields-d : goal.overflow_mul-result-else-yields-d
+overflow_mul-result-else-yields-d c = omega (arith, hard-top c.args.stiffness c.args.k c.args.yields c.requires.stiffness c.requires.k c.requires.yields_top)
 
-pub overflow-add-result-else-yields-d : goal.overflow-add-result-else-yields-d
-overflow-add-result-else-yields-d c =
-    omega (arith, slip-top c.args.strength c.args.s c.requires.strength c.requires.s, hard-top c.args.stiffness c.args.k c.args.yields c.requires.stiffness c.requires.k c.requires.yields-top)
+pub overflow_add-result-else-yields-d : goal.overflow_add-result-else-yields-d
+overflow_add-result-else-yields-d c =
+    omega (arith, slip-top c.args.strength c.args.s c.requires.strength c.requires.s, hard-top c.args.stiffness c.args.k c.args.yields c.requires.stiffness c.requires.k c.requires.yields_top)
 
-pub overflow-mul-result-else-yields-d-2 : goal.overflow-mul-result-else-yields-d-2
-overflow-mul-result-else-yields-d-2 c =
+pub overflow_mul-result-else-yields-d-2 : goal.overflow_mul-result-else-yields-d-2
+overflow_mul-result-else-yields-d-2 c =
     let g = c.args.strength * c.args.s / 100 + c.args.stiffness * c.args.k * c.args.yields / 1000 in
     let top : c.args.strength * c.args.s / 100 + c.args.stiffness * c.args.k * c.args.yields / 1000 ≤ 2000000000000 =
-    omega (arith, slip-top c.args.strength c.args.s c.requires.strength c.requires.s, hard-top c.args.stiffness c.args.k c.args.yields c.requires.stiffness c.requires.k c.requires.yields-top) in
+    omega (arith, slip-top c.args.strength c.args.s c.requires.strength c.requires.s, hard-top c.args.stiffness c.args.k c.args.yields c.requires.stiffness c.requires.k c.requires.yields_top) in
     omega (arith, mul-le g c.args.d 2000000000000 10000 top c.requires.d)

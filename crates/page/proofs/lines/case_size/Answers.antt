@@ -5,5 +5,5 @@ use Rattle.page.proofs.lines.case_size.Goals as goal
 
 pub returns : goal.returns
 returns c =
-    let e = length_numbered c.args.place c.answer-number.result (outcome c.args.answer.now) c.answer-number.ensures in
+    let e = length_numbered c.args.place c.answer_number.result (outcome c.args.answer.now) c.answer_number.ensures in
     record { value = omega arith; most = omega arith }

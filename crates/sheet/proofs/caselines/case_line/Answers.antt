@@ -7,6 +7,6 @@ use Rattle.sheet.proofs.caselines.case_line.Goals as goal
 
 pub returns : goal.returns
 returns c =
-    let form : ok_or (case_form c.args.text.now) form_fault ≡ Ok (c.in-ok-number.number, c.in-ok-number.numbers) = cc c.in-ok-number.was in
-    let whole = case_is c.args.text.now c.args.n c.in-ok-number.number c.in-ok-number.numbers form c.if-number-n.false in
+    let form : ok_or (case_form c.args.text.now) form_fault ≡ Ok (c.in_ok-number.number, c.in_ok-number.numbers) = cc c.in_ok-number.was in
+    let whole = case_is c.args.text.now c.args.n c.in_ok-number.number c.in_ok-number.numbers form c.if-number-n.false in
     cc

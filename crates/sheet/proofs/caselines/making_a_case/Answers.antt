@@ -9,12 +9,12 @@ use Rattle.sheet.proofs.caselines.making_a_case.Goals as goal
 
 pub returns-in-err--case : goal.returns-in-err--case
 returns-in-err--case c =
-    let p = err_from_is_err_and c.from-residual.result c.from-residual.ensures.1 in
+    let p = err_from_is_err_and c.from_residual.result c.from_residual.ensures.1 in
     p.1 ∙ ap Err p.2 ∙ sym (ap (λ r. with_ok r (λ (k : Case SheetRule). k.numbers)) c.in-err--case.was) ∙ c.new.ensures
 
 pub returns : goal.returns
 returns c =
-    let made : case_made c.args.numbers ≡ Ok c.in-ok--case.-case.numbers =
+    let made : case_made c.args.numbers ≡ Ok c.in-ok--case._case.numbers =
     sym c.new.ensures ∙ ap (λ r. with_ok r (λ (k : Case SheetRule). k.numbers)) c.in-ok--case.was in
-    let same = case_same c.args.numbers c.in-ok--case.-case.numbers made in
+    let same = case_same c.args.numbers c.in-ok--case._case.numbers made in
     cc

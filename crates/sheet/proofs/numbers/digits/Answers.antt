@@ -30,15 +30,15 @@ loop-b-preserved c =
 pub returns : goal.returns
 returns c = let l : length c.args.field.now ≤ c.loop-b.b-index = omega arith in sym (at_drop_all (digits_from c.loop-b.n) c.args.field.now c.loop-b.b-index l) ∙ c.loop-b.invariant.1
 
-pub overflow-mul-n : goal.overflow-mul-n
-overflow-mul-n c =
+pub overflow_mul-n : goal.overflow_mul-n
+overflow_mul-n c =
     let few : c.loop-b.b-index ≤ 6 = omega arith in
     let ten : 0 < 10 = omega arith in
     let p : 10 ^ c.loop-b.b-index ≤ 10 ^ 6 = pow-le-pow_right ten few in
     omega arith
 
-pub overflow-add-n : goal.overflow-add-n
-overflow-add-n c =
+pub overflow_add-n : goal.overflow_add-n
+overflow_add-n c =
     let few : c.loop-b.b-index ≤ 6 = omega arith in
     let ten : 0 < 10 = omega arith in
     let p : 10 ^ c.loop-b.b-index ≤ 10 ^ 6 = pow-le-pow_right ten few in

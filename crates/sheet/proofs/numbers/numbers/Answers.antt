@@ -15,31 +15,31 @@ loop-i-init g c =
     let z : g.row.N - 0 ≡ g.row.N = omega arith in
     (length-replicate g.row.N 0, join_nil _ ∙ ap (λ k. sized k (parts 44 c.args.line.now)) z)
 
-pub returns-in-default : goal.returns-in-default
-returns-in-default g c =
+pub returns-in_default : goal.returns-in_default
+returns-in_default g c =
     let ns = take c.loop-i.i c.loop-i.out in
-    sym (sym c.loop-i.invariant.1 ∙ ap (yet ns (g.row.N - c.loop-i.i)) c.in-default.is ∙ none_left ns g.row.N c.loop-i.i c.loop-i-test.true)
+    sym (sym c.loop-i.invariant.1 ∙ ap (yet ns (g.row.N - c.loop-i.i)) c.in_default.is ∙ none_left ns g.row.N c.loop-i.i c.loop-i-test.true)
 
-pub returns-in-err-out : goal.returns-in-err-out
-returns-in-err-out g c =
+pub returns-in_err-out : goal.returns-in_err-out
+returns-in_err-out g c =
     let ns = take c.loop-i.i c.loop-i.out in
-    let n : parsed (first 44 c.in-Some.text.now) ≡ None = ap parsed (sym c.split-first.ensures.first) ∙ sym c.in-err-out.ensures in
+    let n : parsed (first 44 c.in-Some.text.now) ≡ None = ap parsed (sym c.split_first.ensures.first) ∙ sym c.in_err-out.ensures in
     let q : sized g.row.N (fields c.args.line.now) ≡ None =
     sym c.loop-i.invariant.1 ∙ ap (yet ns (g.row.N - c.loop-i.i)) c.in-Some.is ∙ one_more ns g.row.N c.loop-i.i c.in-Some.text.now c.loop-i-test.true
     ∙ ap (λ o. join_to ns (cons_if o (sized (g.row.N - (c.loop-i.i + 1)) (parts_of 44 (rest 44 c.in-Some.text.now))))) n in
-    c.from-residual.ensures ∙ sym q
+    c.from_residual.ensures ∙ sym q
 
 pub loop-i-preserved : goal.loop-i-preserved
 loop-i-preserved g c =
     let ns = take c.loop-i.i c.loop-i.out in
-    let v = c.in-ok-out.field-0 in
+    let v = c.in_ok-out.field-0 in
     let k = g.row.N - (c.loop-i.i + 1) in
     let l : c.loop-i.i < length c.loop-i.out = omega (arith, c.loop-i.invariant.0) in
-    let n : parsed (first 44 c.in-Some.text.now) ≡ Some v = ap parsed (sym c.split-first.ensures.first) ∙ sym c.number.ensures ∙ c.in-ok-out.was in (
+    let n : parsed (first 44 c.in-Some.text.now) ≡ Some v = ap parsed (sym c.split_first.ensures.first) ∙ sym c.number.ensures ∙ c.in_ok-out.was in (
       length-set c.loop-i.out c.loop-i.i v ∙ c.loop-i.invariant.0,
-      ap (λ ms. yet ms k c.split-first.result.1) (take_more_set c.loop-i.out c.loop-i.i v l)
-          ∙ sym (join_some ns v (sized k (parts_of 44 (option_map (λ x. x.now) c.split-first.result.1))))
-          ∙ ap (λ m. join_to ns (cons_if (Some v) (sized k (parts_of 44 m)))) c.split-first.ensures.more
+      ap (λ ms. yet ms k c.split_first.result.1) (take_more_set c.loop-i.out c.loop-i.i v l)
+          ∙ sym (join_some ns v (sized k (parts_of 44 (option_map (λ x. x.now) c.split_first.result.1))))
+          ∙ ap (λ m. join_to ns (cons_if (Some v) (sized k (parts_of 44 m)))) c.split_first.ensures.more
           ∙ ap (λ o. join_to ns (cons_if o (sized k (parts_of 44 (rest 44 c.in-Some.text.now))))) (sym n)
           ∙ sym (one_more ns g.row.N c.loop-i.i c.in-Some.text.now c.loop-i-test.true) ∙ sym (ap (yet ns (g.row.N - c.loop-i.i)) c.in-Some.is) ∙ c.loop-i.invariant.1,
     )

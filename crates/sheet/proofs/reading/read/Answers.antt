@@ -19,8 +19,8 @@ returns-then-sheet-gt16384 c =
       text = text_law (capacity c.args.rows.now) (capacity c.args.cases.now) c.args.sheet.now (omega arith) (omega arith);
     }
 
-pub returns-then-is-err : goal.returns-then-is-err
-returns-then-is-err c =
+pub returns-then-is_err : goal.returns-then-is_err
+returns-then-is_err c =
     record {
       weight = search rules;
       rows = search rules;
@@ -31,20 +31,20 @@ returns-then-is-err c =
       text = text_law (capacity c.args.rows.now) (capacity c.args.cases.now) c.args.sheet.now (omega arith) (omega arith);
     }
 
-pub returns-else-is-err : goal.returns-else-is-err
-returns-else-is-err c =
+pub returns-else-is_err : goal.returns-else-is_err
+returns-else-is_err c =
     let back = read_back (capacity c.args.rows.now) (capacity c.args.cases.now) c.args.sheet.now
-    (items c.read-lines-weight.new.rows) (items c.read-lines-weight.new.cases) c.read-lines-weight.result
-    c.if-sheet-gt16384.false (sym c.if-is-err.ensures.value)
-    (c.read-lines-weight.ensures.content
+    (items c.read_lines-weight.new.rows) (items c.read_lines-weight.new.cases) c.read_lines-weight.result
+    c.if-sheet-gt16384.false (sym c.if-is_err.ensures.value)
+    (c.read_lines-weight.ensures.content
     ∙ ap₂ (λ a b. read_parts a b 1 (begun_with (items c.clear.new.self) (items c.clear-2.new.self)) (parts 10 c.args.sheet.now)) c.clear.ensures.places c.clear-2.ensures.places
     ∙ ap₂ (λ a b. read_parts (capacity c.args.rows.now) (capacity c.args.cases.now) 1 (begun_with a b) (parts 10 c.args.sheet.now)) c.clear.ensures.list c.clear-2.ensures.list) in
     record {
       weight = back.weight;
       rows = back.rows_are;
       cases = back.cases_are;
-      rowplaces = c.read-lines-weight.ensures.rowplaces ∙ c.clear.ensures.places;
-      caseplaces = c.read-lines-weight.ensures.caseplaces ∙ c.clear-2.ensures.places;
+      rowplaces = c.read_lines-weight.ensures.rowplaces ∙ c.clear.ensures.places;
+      caseplaces = c.read_lines-weight.ensures.caseplaces ∙ c.clear-2.ensures.places;
       made = back.made;
       text = text_law (capacity c.args.rows.now) (capacity c.args.cases.now) c.args.sheet.now (omega arith) (omega arith);
     }

@@ -3,11 +3,11 @@ use Rattle.bearing.specs.Compound.{count_checked}
 use Rattle.bearing.specs.Compounds.{force_counts, count_passed}
 use Rattle.bearing.proofs.compound.Group.new.Goals as goal
 
-pub overflow-mul-count : goal.overflow-mul-count
-overflow-mul-count g c =
-    let few = count_passed c.args.count (ap is_ok (sym c.check-count.ensures ∙ c.in-ok-check-count.was)) in
+pub overflow_mul-count : goal.overflow_mul-count
+overflow_mul-count g c =
+    let few = count_passed c.args.count (ap is_ok (sym c.check_count.ensures ∙ c.in_ok-check_count.was)) in
     simp c.answer-greatest.ensures
     (omega (arith, force_counts (g.met.B.Bearing.laws c.args.member) c.args.count 300 300 10000 (omega (arith, few.1))))
 
-pub overflow-cast-result : goal.overflow-cast-result
-overflow-cast-result g c = omega (arith, (count_passed c.args.count (ap is_ok (sym c.check-count.ensures ∙ c.in-ok-check-count.was))).1)
+pub overflow_cast-result : goal.overflow_cast-result
+overflow_cast-result g c = omega (arith, (count_passed c.args.count (ap is_ok (sym c.check_count.ensures ∙ c.in_ok-check_count.was))).1)

@@ -2,12 +2,12 @@ use Rattle.std.proofs.Common.{arith}
 use Rattle.bearing.specs.Compounds.{force_counts, energy_counts}
 use Rattle.bearing.proofs.compound.GroupBearing.answer.Goals as goal
 
-pub overflow-mul-result : goal.overflow-mul-result
-overflow-mul-result g c =
+pub overflow_mul-result : goal.overflow_mul-result
+overflow_mul-result g c =
     simp c.answer-force.ensures
-    (omega (arith, force_counts (g.met.B.Bearing.laws c.args.self.now.member) c.counts-as-n.result c.nearest-factor.result c.nearest-factor-2.result c.nearest-travel.result c.counts-as-n.ensures.few))
+    (omega (arith, force_counts (g.met.B.Bearing.laws c.args.self.now.member) c.counts_as-n.result c.nearest_factor.result c.nearest_factor-2.result c.nearest_travel.result c.counts_as-n.ensures.few))
 
-pub overflow-mul-result-2 : goal.overflow-mul-result-2
-overflow-mul-result-2 g c =
+pub overflow_mul-result-2 : goal.overflow_mul-result-2
+overflow_mul-result-2 g c =
     simp c.answer-force.ensures
-    (omega (arith, energy_counts (g.met.B.Bearing.laws c.args.self.now.member) c.counts-as-n.result c.nearest-factor.result c.nearest-factor-2.result c.nearest-travel.result c.counts-as-n.ensures.few (omega arith)))
+    (omega (arith, energy_counts (g.met.B.Bearing.laws c.args.self.now.member) c.counts_as-n.result c.nearest_factor.result c.nearest_factor-2.result c.nearest_travel.result c.counts_as-n.ensures.few (omega arith)))

@@ -8,14 +8,14 @@ use Rattle.listing.proofs.Listed.{items_few}
 use Rattle.bridge.proofs.Covering.{query_law}
 use Rattle.bridge.proofs.drafting.Bridge.query.Goals as goal
 
-pub answer-rows-requires : goal.answer-rows-requires
-answer-rows-requires g c = omega (arith, ap length c.rows.ensures, items_few c.args.self.now.rows)
+pub answer_rows-requires : goal.answer_rows-requires
+answer_rows-requires g c = omega (arith, ap length c.rows.ensures, items_few c.args.self.now.rows)
 
 pub returns : goal.returns
 returns g c =
     let n = c.args.case.now.numbers in
-    let is : reported c.answer-rows.result ≡ queried g.B.Bearing.force g.B.Bearing.energy g.R.DampingRule.says (items c.args.self.now.rows) c.args.self.now.weight.kn c.args.case.now.numbers =
-    c.answer-rows.ensures ∙
+    let is : reported c.answer_rows.result ≡ queried g.B.Bearing.force g.B.Bearing.energy g.R.DampingRule.says (items c.args.self.now.rows) c.args.self.now.weight.kn c.args.case.now.numbers =
+    c.answer_rows.ensures ∙
     ap₂ (λ (rows : List g.row.B.Denot) (w : Weight). queried g.B.Bearing.force g.B.Bearing.energy g.R.DampingRule.says rows w.kn c.args.case.now.numbers) c.rows.ensures c.weight.ensures in
     record {
       answer = is;
@@ -23,5 +23,5 @@ returns g c =
           c.args.case.now.sordered c.args.case.now.kordered
           (demand_low c.args.case.now.numbers c.args.self.now.weight.kn c.args.case.now.accelfrom c.args.self.now.weight.low)
           (demand_top c.args.case.now.numbers c.args.self.now.weight.kn c.args.case.now.accelto c.args.self.now.weight.high)
-          c.answer-rows.result is;
+          c.answer_rows.result is;
     }

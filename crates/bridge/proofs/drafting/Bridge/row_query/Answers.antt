@@ -7,8 +7,8 @@ use Rattle.listing.proofs.Listed.{items_few}
 use Rattle.bridge.proofs.Covering.{row_law}
 use Rattle.bridge.proofs.drafting.Bridge.row_query.Goals as goal
 
-pub row-force-requires : goal.row-force-requires
-row-force-requires g c = omega (arith, ap length c.rows.ensures, items_few c.args.self.now.rows)
+pub row_force-requires : goal.row_force-requires
+row_force-requires g c = omega (arith, ap length c.rows.ensures, items_few c.args.self.now.rows)
 
 pub returns : goal.returns
 returns g c =

@@ -11,6 +11,6 @@ returns c =
     let g = ap (λ (p : ℕ × ℕ). p.0) c.slide.ensures in
     let e : c.slide-2.result ≡ (sliding_force b (factor c.args.s) (travel c.args.d), sliding_energy b (factor c.args.s) (travel c.args.d)) =
     c.slide-2.ensures
-    ∙ (λ i. (sliding_force b (c.nearest-factor.ensures i) (c.nearest-travel.ensures i), sliding_energy b (c.nearest-factor.ensures i) (c.nearest-travel.ensures i))) in
-    e ∙ answered_by (pendulum_ranged b) (sliding_force b 300 10000) b (λ s k d. sliding_force b s d) (λ s k d. sliding_energy b s d) c.args.s c.args.-k c.args.d h
-    (omega (arith, c.if-slide-gt-TOP-FORCE.false, g))
+    ∙ (λ i. (sliding_force b (c.nearest_factor.ensures i) (c.nearest_travel.ensures i), sliding_energy b (c.nearest_factor.ensures i) (c.nearest_travel.ensures i))) in
+    e ∙ answered_by (pendulum_ranged b) (sliding_force b 300 10000) b (λ s k d. sliding_force b s d) (λ s k d. sliding_energy b s d) c.args.s c.args._k c.args.d h
+    (omega (arith, c.if-slide-gt-TOP_FORCE.false, g))

@@ -2,8 +2,8 @@ use Rattle.listing.proofs.Listed.{taken_as, taken_within}
 use Rattle.std.proofs.Common.{◌≡◌, ◌-◌, min, arith}
 use Rattle.listing.proofs.places.Listing.as_slice.Goals as goal
 
-pub slice-bounds-result-end : goal.slice-bounds-result-end
-slice-bounds-result-end g c = omega (arith, taken_within c.len-n.result (min c.args.self.now.count g.row.MAX) c.args.self.now.places.now c.len-n.ensures)
+pub slice_bounds-result-end : goal.slice_bounds-result-end
+slice_bounds-result-end g c = omega (arith, taken_within c.len-n.result (min c.args.self.now.count g.row.MAX) c.args.self.now.places.now c.len-n.ensures)
 
 pub returns : goal.returns
 returns g c =

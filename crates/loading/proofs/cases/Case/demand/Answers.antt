@@ -4,13 +4,13 @@ use Rattle.loading.specs.Sites.{site_tenths}
 use Rattle.loading.proofs.Demands.{site_low, site_top, product_top, demanded_low, demanded_top}
 use Rattle.loading.proofs.cases.Case.demand.Goals as goal
 
-pub overflow-mul-result-3 : goal.overflow-mul-result-3
-overflow-mul-result-3 g c =
+pub overflow_mul-result-3 : goal.overflow_mul-result-3
+overflow_mul-result-3 g c =
     let top = site_top c.args.self.now.numbers.site in
     omega (arith, product_top c.args.self.now.numbers.accel c.coefficient.result c.kilonewtons.result (omega arith) (omega arith) (omega arith))
 
-pub overflow-add-result : goal.overflow-add-result
-overflow-add-result g c =
+pub overflow_add-result : goal.overflow_add-result
+overflow_add-result g c =
     let top = site_top c.args.self.now.numbers.site in
     omega (arith, product_top c.args.self.now.numbers.accel c.coefficient.result c.kilonewtons.result (omega arith) (omega arith) (omega arith))
 

@@ -11,8 +11,8 @@ use Rattle.sheet.specs.Machine.{Standing, State, standing, state_of, step_at, st
 use Rattle.sheet.proofs.Standing.{changed, begins_case, begins_row, lead_is, pendulum_is}
 use Rattle.sheet.proofs.machine.Reader.take.Goals as goal
 
-pub overflow-add-n : goal.overflow-add-n
-overflow-add-n c = omega (arith, items_few c.args.cases.now)
+pub overflow_add-n : goal.overflow_add-n
+overflow_add-n c = omega (arith, items_few c.args.cases.now)
 
 pub returns-in-WeightValue-default : goal.returns-in-WeightValue-default
 returns-in-WeightValue-default c =
@@ -52,7 +52,7 @@ returns-in-Rows-eq99 c =
     (with_ok (kept (capacity c.args.rows.now) (items c.args.rows.now) (row_line c.args.line.now)) (λ rs. record { at = standing c.args.self.now; rows = rs; cases = items c.args.cases.now })))
     (begins_case c.args.line.now l b0 b1 b2 b3)
     ∙ ap (λ n. with_ok (cases_named n (standing c.args.self.now) c.args.line.now) (λ s. record { at = s; rows = items c.args.rows.now; cases = items c.args.cases.now })) (sym c.len.ensures))
-    c.name-cases.result (standing c.name-cases.new.self) c.name-cases.ensures.result c.name-cases.ensures.at in
+    c.name_cases.result (standing c.name_cases.new.self) c.name_cases.ensures.result c.name_cases.ensures.at in
     record { result = t.result; state = t.state; rowplaces = refl; caseplaces = refl }
 
 pub returns-in-L : goal.returns-in-L
