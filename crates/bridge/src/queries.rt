@@ -31,7 +31,7 @@ fn query_fault(refusal: Refusal) -> Fault
 fn restores<B: Bearing>(rows: &[B], s: u16, k: u16, dlow: u16, kilonewtons: u32) -> bool
     requires few { length rows.now ≤ 64 }
     requires near { dlow ≤ 10000 }
-    ensures { result ≡ restoring (total force rows.now (all_at s k) dlow) (total force rows.now (all_at s k) (half_of dlow)) kilonewtons }
+    ensures { result ≡ restoring (total B.force rows.now (all_at s k) dlow) (total B.force rows.now (all_at s k) (half_of dlow)) kilonewtons }
 {
     let (whole, _) = totals(rows, s, k, dlow);
     let (half, _) = totals(rows, s, k, (dlow + 1) / 2);
@@ -46,7 +46,7 @@ fn row_force<B: Bearing, R: DampingRule>(
     n: usize,
 ) -> Result<u64, Fault>
     requires { length rows.now ≤ 64 }
-    ensures { result ≡ row_queried force energy says rows.now weight.kn case.now.numbers n }
+    ensures { result ≡ row_queried B.force B.energy R.says rows.now weight.kn case.now.numbers n }
 {
     if rows.len() == 0 {
         return Err(query_fault(Refusal::NoRows));
@@ -71,7 +71,7 @@ fn answer_rows<B: Bearing, R: DampingRule>(
     case: &Case<R>,
 ) -> Result<Answer, Fault>
     requires { length rows.now ≤ 64 }
-    ensures { reported result ≡ queried force energy says rows.now weight.kn case.now.numbers }
+    ensures { reported result ≡ queried B.force B.energy R.says rows.now weight.kn case.now.numbers }
 {
     if rows.len() == 0 {
         return Err(query_fault(Refusal::NoRows));
@@ -99,16 +99,16 @@ fn answer_rows<B: Bearing, R: DampingRule>(
 impl<'a, B: Bearing + Copy> Bridge<'a, B> {
     // Answers a load case, or refuses it: no row is hung, or no displacement in range meets the demand.
     pub fn query<R: DampingRule>(&self, case: &Case<R>) -> Result<Answer, Fault>
-        ensures answer { reported result ≡ queried force energy says (items self.now.rows) self.now.weight.kn case.now.numbers }
-        ensures law { QueryLaw force energy says (items self.now.rows) self.now.weight.kn case.now.numbers result }
+        ensures answer { reported result ≡ queried B.force B.energy R.says (items self.now.rows) self.now.weight.kn case.now.numbers }
+        ensures law { QueryLaw B.force B.energy R.says (items self.now.rows) self.now.weight.kn case.now.numbers result }
     {
         answer_rows(self.rows(), self.weight(), case)
     }
 
     // Answers one row's force at the upper factors at dlow; rows are numbered from 1.
     pub fn row_query<R: DampingRule>(&self, case: &Case<R>, n: usize) -> Result<u64, Fault>
-        ensures answer { result ≡ row_queried force energy says (items self.now.rows) self.now.weight.kn case.now.numbers n }
-        ensures law { RowLaw force energy says (items self.now.rows) self.now.weight.kn case.now.numbers n result }
+        ensures answer { result ≡ row_queried B.force B.energy R.says (items self.now.rows) self.now.weight.kn case.now.numbers n }
+        ensures law { RowLaw B.force B.energy R.says (items self.now.rows) self.now.weight.kn case.now.numbers n result }
     {
         row_force(self.rows(), self.weight(), case, n)
     }

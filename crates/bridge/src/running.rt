@@ -25,8 +25,8 @@ impl<'a, B: Copy> Draft<'a, B> {
 
 impl<'a, B: Bearing + Copy> Bridge<'a, B> {
     fn put<R: DampingRule>(&self, question: &Question<R>) -> Response
-        ensures values { response_values result ≡ asked force energy says (items self.now.rows) self.now.weight.kn question.now }
-        ensures law { Law force energy says (items self.now.rows) self.now.weight.kn question.now result }
+        ensures values { response_values result ≡ asked B.force B.energy R.says (items self.now.rows) self.now.weight.kn question.now }
+        ensures law { Law B.force B.energy R.says (items self.now.rows) self.now.weight.kn question.now result }
     {
         match question {
             Question::Query(case) => Response::Query(self.query(case)),
@@ -58,8 +58,8 @@ fn put_all<B: Bearing + Copy, R: DampingRule>(
     responses: &mut [Response],
 )
     requires { length responses.old ≡ length questions.now }
-    ensures values { map response_values responses.new ≡ map (asked force energy says (items bridge.now.rows) bridge.now.weight.kn) questions.now }
-    ensures law { Each (Law force energy says (items bridge.now.rows) bridge.now.weight.kn) questions.now responses.new }
+    ensures values { map response_values responses.new ≡ map (asked B.force B.energy R.says (items bridge.now.rows) bridge.now.weight.kn) questions.now }
+    ensures law { Each (Law B.force B.energy R.says (items bridge.now.rows) bridge.now.weight.kn) questions.now responses.new }
 {
     for i in 0..questions.len() {
         responses[i] = bridge.put(&questions[i]);
@@ -87,7 +87,7 @@ pub fn replay<B: Bearing + Copy, R: DampingRule>(
     responses: &mut [Response],
 ) -> bool
     ensures fits { result ≡ (length replies.old == length calls.now && length responses.old == length (questions_of questions.entry)) }
-    ensures run { result ≡ true → Run force energy says (min 64 (length places.old)) weight.kn calls.now (questions_of questions.entry) replies.new responses.new }
+    ensures run { result ≡ true → Run B.force B.energy R.says (min 64 (length places.old)) weight.kn calls.now (questions_of questions.entry) replies.new responses.new }
     ensures kept { result ≡ false → (places.new ≡ places.old) × (replies.new ≡ replies.old) × (responses.new ≡ responses.old) }
 {
     if replies.len() != calls.len() || responses.len() != how_many(questions) {

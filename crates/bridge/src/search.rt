@@ -11,8 +11,8 @@ use damping::DampingRule;
 pub(crate) fn totals<B: Bearing>(rows: &[B], s: u16, k: u16, d: u16) -> (u64, u64)
     requires few { length rows.now ≤ 64 }
     requires near { d ≤ 10000 }
-    ensures forces { result.0 ≡ total force rows.now (all_at s k) d }
-    ensures energies { result.1 ≡ total energy rows.now (all_at s k) d }
+    ensures forces { result.0 ≡ total B.force rows.now (all_at s k) d }
+    ensures energies { result.1 ≡ total B.energy rows.now (all_at s k) d }
 {
     let mut f: u64 = 0;
     let mut e: u64 = 0;
@@ -35,7 +35,7 @@ fn is_met<B: Bearing, R: DampingRule>(
 ) -> bool
     requires few { length rows.now ≤ 64 }
     requires near { d ≤ 10000 }
-    ensures { result ≡ met force energy (R.DampingRule.says rule.now) rows.now (all_at s k) demand d }
+    ensures { result ≡ met B.force B.energy (R.DampingRule.says rule.now) rows.now (all_at s k) demand d }
 {
     let (f, e) = totals(rows, s, k, d);
     rule.meets(e, d as u64 * f, demand)
@@ -53,7 +53,7 @@ pub(crate) fn find<B: Bearing, R: DampingRule>(
     requires few { length rows.now ≤ 64 }
     requires low { 1 ≤ demand }
     requires top { demand ≤ 20000000000000 }
-    ensures { result ≡ design (met force energy (R.DampingRule.says rule.now) rows.now (all_at s k) demand) }
+    ensures { result ≡ design (met B.force B.energy (R.DampingRule.says rule.now) rows.now (all_at s k) demand) }
 {
     let mut lo: u16 = 1;
     let mut hi: u16 = 10_001;
