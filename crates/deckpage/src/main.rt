@@ -14,6 +14,7 @@ mod words;
 use deck::{PAGE_SPACE, answer_sheet};
 use looking::spot_of;
 use std::io::{Read, Write};
+use std::process::ExitCode;
 use std::{env, io};
 use telling::Answered;
 use words::HELP;
@@ -78,8 +79,9 @@ fn answer(rt: &HostRuntime, sheet: &[u8]) -> Result<(), Stopped>
     }
 }
 
-fn main(rt: HostRuntime) -> Result<(), Stopped> {
-    let mut args = env::args(&rt)?;
+// Reads the arguments and the sheet, answers it, and tells of input or output that failed.
+fn run(rt: &HostRuntime) -> Result<(), Stopped> {
+    let mut args = env::args(rt)?;
     let _ = args.next();
     match args.next() {
         None => {}
@@ -94,8 +96,8 @@ fn main(rt: HostRuntime) -> Result<(), Stopped> {
         }
     }
     let mut sheet = [0; MOST_READ];
-    let ended = match read_input(&rt, &mut sheet) {
-        Ok(len) => answer(&rt, &sheet[0..len]),
+    let ended = match read_input(rt, &mut sheet) {
+        Ok(len) => answer(rt, &sheet[0..len]),
         Err(_) => Err(Stopped::Failed),
     };
     match ended {
@@ -104,5 +106,13 @@ fn main(rt: HostRuntime) -> Result<(), Stopped> {
             Err(Stopped::Failed)
         }
         r => r,
+    }
+}
+
+// Status 0 where the sheet is accepted or help was asked for, else 1: what there is to say has been said by then.
+fn main(rt: HostRuntime) -> ExitCode {
+    match run(&rt) {
+        Ok(()) => ExitCode::SUCCESS,
+        Err(_) => ExitCode::FAILURE,
     }
 }
