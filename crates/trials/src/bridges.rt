@@ -70,9 +70,9 @@ fn lists(rt: HostRuntime) {
     assert_eq!(rt; numbers(list.push(7)), (0, 0, 0, 0));
     assert_eq!(rt; numbers(list.push(8)), (0, 0, 0, 0));
     assert_eq!(rt; numbers(list.push(9)), (4, 2, 0, 0));
-    assert!(rt; list.as_slice() == [7, 8]);
+    assert!(rt; list.as_slice() == [7, 8].as_slice());
     assert_eq!(rt; numbers(list.take_off()), (0, 0, 0, 0));
-    assert!(rt; list.as_slice() == [7]);
+    assert!(rt; list.as_slice() == [7].as_slice());
 }
 
 // The worked bridge: 4000 kN on four pendulums; without a row, answered, and beyond range.
