@@ -1,9 +1,9 @@
 -- Either of two bearings and a group of equal ones keep the laws that their parts keep. Assumes nothing.
-use Rattle.std.specs.Prelude.{◌≡◌, ℕ, ◌*◌, ◌≤◌, Bool, true, false, cond, is_ok, nat_le}
+use Rattle.std.specs.Prelude.{◌≡◌, ℕ, ◌*◌, ◌≤◌, true, is_ok, nat_le}
 use Rattle.std.proofs.Common.{le_trans, mul-le-mul_left, mul_left_comm, mul-zero, arith}
 use Rattle.std.proofs.lemmas.Nat.{mul-le}
 use Rattle.std.proofs.lemmas.Bool.{cond_both, leb-true}
-use Rattle.bearing.specs.Ranges.{between, factor, travel, top_force}
+use Rattle.bearing.specs.Ranges.{between, top_force}
 use Rattle.bearing.specs.Laws.{Laws, Curve}
 use Rattle.bearing.specs.Curves.{clamped}
 use Rattle.bearing.specs.Compound.{by_kind, counted, times, count_checked}

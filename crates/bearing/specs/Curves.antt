@@ -1,5 +1,5 @@
 -- How a bearing's force or energy is taken from formulas that hold within the ranges. Assumes nothing.
-use Rattle.std.specs.Prelude.{ℕ, Bool, cond}
+use Rattle.std.specs.Prelude.{Bool, cond}
 use Rattle.bearing.specs.Ranges.{factor, travel}
 use Rattle.bearing.specs.Laws.{Curve}
 

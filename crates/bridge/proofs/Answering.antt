@@ -1,19 +1,17 @@
 -- What a query finds, against what it answers by definition. Assumes nothing.
-use Rattle.std.proofs.Common.{◌≡◌, ℕ, ◌-◌, ◌<◌, ◌≤◌, Bool, true, false, cond, ltb, leb, List, length, is_some, Some, None, Ok, Err, Option, Result, sym, refl, ap, ◌∙◌, arith}
+use Rattle.std.proofs.Common.{◌≡◌, ℕ, ◌-◌, ◌<◌, ◌≤◌, Bool, true, ltb, List, length, is_some, Some, None, Ok, Err, Option, sym, ap, ◌∙◌, arith}
 use Rattle.std.proofs.lemmas.Bool.{cond-true, lt-ltb, le-leb, and_from}
-use Rattle.bearing.specs.declared.fault.Refusal.TheVariants.{NoRows, BeyondRange}
+use Rattle.bearing.specs.declared.fault.Refusal.TheVariants.{BeyondRange}
 use Rattle.bearing.specs.declared.fault.Layer.TheVariants.{Bridge}
-use Rattle.bearing.specs.declared.fault.Fault.{Fault}
 use Rattle.bearing.specs.Ranges.{between}
 use Rattle.bearing.specs.Refusals.{plain_fault}
 use Rattle.bearing.specs.Laws.{Laws, Curve}
 use Rattle.damping.specs.Rule.{RuleLaws}
 use Rattle.loading.specs.declared.loads.CaseNumbers.{CaseNumbers}
 use Rattle.loading.specs.Making.{demand}
-use Rattle.bridge.specs.Sums.{all_at, at_row, total, met}
+use Rattle.bridge.specs.Sums.{all_at, at_row, met}
 use Rattle.bridge.specs.Design.{design}
 use Rattle.bridge.specs.Answers.{lowest, highest, meets, values_at, answer_at, queried, row_answer_at, row_queried}
-use Rattle.bridge.specs.Outcomes.{Values}
 use Rattle.bridge.proofs.Covering.{design_found, high_found}
 
 -- a design displacement is in range

@@ -1,5 +1,5 @@
 -- An answered load case covers every choice of factors that the case allows. Assumes nothing.
-use Rattle.std.proofs.Common.{◌≡◌, ℕ, zero, suc, ◌+◌, ◌-◌, ◌*◌, ◌<◌, ◌≤◌, Bool, true, false, cond, ltb, ◌⊎◌, ◌↔◌, List, [], ◌∷◌, length, Some, None, Ok, Err, Option, Result, sym, refl, ap, ◌∙◌, subst, ⊎_elim, le_trans, le_refl, arith, ltb-false, ltb-true}
+use Rattle.std.proofs.Common.{◌≡◌, ℕ, ◌-◌, ◌<◌, ◌≤◌, Bool, true, false, cond, ltb, ◌↔◌, List, length, Some, None, Ok, Err, Option, Result, sym, refl, ap, ◌∙◌, subst, ⊎_elim, le_refl, arith, ltb-false, ltb-true}
 use Rattle.bearing.specs.declared.fault.Fault.{Fault}
 use Rattle.bearing.specs.declared.fault.Refusal.TheVariants.{NoRows, BeyondRange, NoSuchRow}
 use Rattle.bearing.specs.declared.fault.Layer.TheVariants.{Bridge}
@@ -11,13 +11,13 @@ use Rattle.damping.specs.Rule.{RuleLaws}
 use Rattle.loading.specs.declared.loads.CaseNumbers.{CaseNumbers}
 use Rattle.bridge.specs.declared.replies.Answer.{Answer}
 use Rattle.loading.specs.Making.{demand}
-use Rattle.bridge.specs.Sums.{Factors, Choice, at_row, total, met}
-use Rattle.bridge.specs.Design.{Design, Absent, design}
+use Rattle.bridge.specs.Sums.{Choice, at_row, total}
+use Rattle.bridge.specs.Design.{Design, design}
 use Rattle.bridge.specs.Answers.{lowest, highest, clearance, restoring, half_of, meets, values_at, answer_at, queried, row_answer_at, row_queried}
-use Rattle.bridge.specs.Outcomes.{Values, Outcome, Answered, Refused, outcome, outcome_of, reported, values_of, RowOutcome, RowAnswered, RowRefused, row_outcome}
-use Rattle.bridge.specs.Bounds.{Inside, Between, Covers, NoneMeets, QueryLaw, RowLaw}
+use Rattle.bridge.specs.Outcomes.{Values, Refused, outcome, outcome_of, reported, values_of, RowAnswered, RowRefused, row_outcome}
+use Rattle.bridge.specs.Bounds.{Inside, Covers, NoneMeets, QueryLaw, RowLaw}
 use Rattle.bridge.proofs.Totals.{Below, total_grows, row_grows, met_grows}
-use Rattle.bridge.proofs.Firsts.{Designed, design_is, design_least, design_some, true_false}
+use Rattle.bridge.proofs.Firsts.{Designed, design_is, design_least, true_false}
 
 -- where a displacement meets, there is a design displacement, and it is no greater
 pub record Reached (m : ℕ → Bool) (e d : ℕ) : Type 0 where

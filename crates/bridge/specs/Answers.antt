@@ -1,5 +1,5 @@
 -- What a closed bridge answers to a load case. Assumes nothing.
-use Rattle.std.specs.Prelude.{ℕ, ◌+◌, ◌-◌, ◌*◌, ◌/◌, max, Bool, cond, List, [], length, Some, None, Ok, Err, Option, Result, nat_le, nat_lt}
+use Rattle.std.specs.Prelude.{ℕ, ◌+◌, ◌-◌, ◌*◌, ◌/◌, max, Bool, cond, List, length, Some, None, Ok, Err, Option, Result, nat_le, nat_lt}
 use Rattle.bearing.specs.declared.fault.Fault.{Fault}
 use Rattle.bearing.specs.declared.fault.Refusal.TheVariants.{NoRows, BeyondRange, NoSuchRow}
 use Rattle.bearing.specs.declared.fault.Layer.TheVariants.{Bridge}

@@ -9,7 +9,7 @@ use Rattle.bridge.specs.declared.replies.Answer.{Answer}
 use Rattle.bridge.specs.Sums.{Factors, Choice, at_row, total}
 use Rattle.bridge.specs.Design.{Design, Absent}
 use Rattle.bridge.specs.Answers.{lowest, highest, clearance, restoring, half_of, meets}
-use Rattle.bridge.specs.Outcomes.{Outcome, Refused, outcome, RowOutcome, RowAnswered, RowRefused, row_outcome}
+use Rattle.bridge.specs.Outcomes.{Refused, outcome, RowAnswered, RowRefused, row_outcome}
 
 -- factors that a case allows
 pub record Inside {R : Type 0} (c : CaseNumbers R) (f : Factors) : Type 0 where

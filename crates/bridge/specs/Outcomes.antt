@@ -1,5 +1,5 @@
 -- What a load case comes to: 0 with its five values, or the number of its refusal. Assumes nothing.
-use Rattle.std.specs.Prelude.{ℕ, Bool, Some, None, Ok, Err, Option, Result}
+use Rattle.std.specs.Prelude.{ℕ, Bool, Some, Ok, Err, Option, Result}
 use Rattle.bearing.specs.declared.fault.Fault.{Fault}
 use Rattle.bearing.specs.Refusals.{number_of}
 use Rattle.bridge.specs.declared.replies.Answer.{Answer}

@@ -1,5 +1,5 @@
 -- The law of bounds over whole runs: a draft is begun, rows are hung and taken off, it is closed, and questions are asked. Assumes nothing.
-use Rattle.std.specs.Prelude.{◌≡◌, ℕ, Bool, List, [], ◌∷◌, map, length, Some, None, Option, Result}
+use Rattle.std.specs.Prelude.{◌≡◌, ℕ, Bool, List, [], ◌∷◌, map, Some, None, Option, Result}
 use Rattle.std.specs.Borrow.{Bor}
 use Rattle.bearing.specs.declared.fault.Fault.{Fault}
 use Rattle.bearing.specs.Laws.{Curve}

@@ -1,5 +1,5 @@
 -- Every case line of an accepted sheet keeps the law of bounds. Assumes nothing.
-use Rattle.std.proofs.Common.{◌≡◌, ℕ, ◌≤◌, Bool, true, ◌&&◌, leb, List, [], ◌∷◌, length, Ok, Err, refl, ap, ◌∙◌, arith}
+use Rattle.std.proofs.Common.{◌≡◌, ℕ, ◌≤◌, true, ◌&&◌, leb, List, [], ◌∷◌, length, Ok, ap, arith}
 use Rattle.std.proofs.lemmas.Bool.Decides.{nat_tests}
 use Rattle.bearing.specs.declared.compound.Either.{Either}
 use Rattle.kinds.specs.declared.lead.LeadRubber.{LeadRubber}
@@ -23,7 +23,7 @@ use Rattle.loading.proofs.Demands.{demand_low, demand_top}
 use Rattle.bridge.proofs.Covering.{answer_exists, query_law}
 use Rattle.sheet.specs.RowLines.{Row, kind_force}
 use Rattle.sheet.specs.CaseLines.{SheetRule, Numbers}
-use Rattle.sheet.specs.Reading.{Content, read_sheet, AllMade}
+use Rattle.sheet.specs.Reading.{AllMade}
 use Rattle.sheet.proofs.Rowwise.{of_then, of_cond}
 use Rattle.sheet.proofs.Accepted.{accepted}
 use Rattle.deck.specs.Whole.{row_force, row_energy, rule_says, case_outcome, outcomes}

@@ -1,5 +1,5 @@
 -- The n-th part of a text, step by step. Assumes nothing.
-use Rattle.std.proofs.Common.{◌≡◌, ℕ, zero, suc, ◌+◌, ◌-◌, ◌<◌, ◌≤◌, List, [], ◌∷◌, get_or, Some, None, Option, sym, refl, ap, ◌∙◌, arith}
+use Rattle.std.proofs.Common.{◌≡◌, ℕ, suc, ◌+◌, ◌-◌, ◌<◌, List, [], ◌∷◌, get_or, Some, None, Option, sym, ap, ◌∙◌, arith}
 use Rattle.sheet.specs.Parts.{parts, parts_of, first, rest}
 use Rattle.sheet.proofs.Cuts.{parts_cut}
 

@@ -1,5 +1,5 @@
 -- Every worked figure, by computing. Assumes nothing.
-use Rattle.std.proofs.Common.{◌≡◌, ℕ, Ok, Err, Result, refl, ap, ◌∙◌}
+use Rattle.std.proofs.Common.{◌≡◌, ℕ, Ok, Err, refl, ap, ◌∙◌}
 use Rattle.bearing.specs.declared.fault.Fault.{Fault}
 use Rattle.bearing.specs.Checks.{clash}
 use Rattle.kinds.specs.declared.lead.LeadRubber.{LeadRubber}

@@ -1,5 +1,5 @@
 -- Worked figures: what the definitions give on twelve examples, and at the edges of what is made. Assumes nothing.
-use Rattle.std.specs.Prelude.{◌≡◌, ℕ, true, false, Ok, Err}
+use Rattle.std.specs.Prelude.{◌≡◌, true, false, Ok, Err}
 use Rattle.bearing.specs.declared.fault.Refusal.TheVariants.{LeadTooWide, TooStrong}
 use Rattle.bearing.specs.declared.fault.Layer.TheVariants.{Bearing}
 use Rattle.bearing.specs.Refusals.{plain_fault}

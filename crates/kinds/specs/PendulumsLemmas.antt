@@ -1,5 +1,5 @@
 -- The laws of a pendulum bearing. Assumes nothing.
-use Rattle.std.specs.Prelude.{◌≡◌, ℕ, ◌+◌, ◌*◌, ◌/◌, ◌<◌, ◌≤◌, true, cond, is_ok, nat_le, refl}
+use Rattle.std.specs.Prelude.{◌≡◌, ℕ, ◌+◌, ◌*◌, ◌/◌, ◌<◌, ◌≤◌, true, is_ok, nat_le, refl}
 use Rattle.std.proofs.Common.{mul-le-mul_left, mul-le-mul, add-le-add, mul_comm, mul-zero, arith}
 use Rattle.std.proofs.lemmas.Nat.{mul-le}
 use Rattle.std.proofs.lemmas.Bool.{cond_both, leb-true, leb-false}
@@ -9,7 +9,7 @@ use Rattle.bearing.specs.Fields.{field_checked}
 use Rattle.kinds.specs.Pendulums.{slip_of, sliding_force, sliding_energy, pendulum_ranged, pendulum_checked, pendulum_force, pendulum_energy}
 use Rattle.kinds.specs.declared.sliding.Pendulum.{Pendulum}
 use Rattle.bearing.specs.Numbers.{div_grows, pick_grows}
-use Rattle.bearing.specs.CurvesLemmas.{Formulas, accepted_laws}
+use Rattle.bearing.specs.CurvesLemmas.{accepted_laws}
 use Rattle.bearing.specs.Checks.{first_passed, then_passed, cond_passed, field_passed}
 
 pub record Ranged (b : Pendulum) : Type 0 where

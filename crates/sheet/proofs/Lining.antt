@@ -1,8 +1,7 @@
 -- Row and case lines, step by step. Assumes nothing.
-use Rattle.std.proofs.Common.{◌≡◌, ℕ, ◌+◌, ◌<◌, ◌≤◌, Bool, true, false, cond, ◌&&◌, eqb, ltb, leb, List, [], ◌∷◌, Ok, Err, Result, sym, refl, ap, ◌∙◌, arith, eq-eqb}
+use Rattle.std.proofs.Common.{◌≡◌, ℕ, ◌+◌, ◌<◌, ◌≤◌, Bool, cond, List, ◌∷◌, Ok, Err, ap, ◌∙◌, arith, eq-eqb}
 use Rattle.std.specs.Option.{ok_or}
 use Rattle.std.proofs.lemmas.Bool.Decides.{nat_tests}
-use Rattle.bearing.specs.declared.fault.Fault.{Fault}
 use Rattle.bearing.specs.declared.fault.Layer.TheVariants.{Bearing, Sheet}
 use Rattle.bearing.specs.Refusals.{out_of_range, and_then, at_field}
 use Rattle.loading.specs.Making.{case_made}

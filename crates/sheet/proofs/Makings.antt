@@ -1,5 +1,5 @@
 -- What makes a case is its own numbers. Assumes nothing.
-use Rattle.std.proofs.Common.{◌≡◌, ℕ, Bool, true, false, cond, ◌&&◌, leb, Ok, Err, Result}
+use Rattle.std.proofs.Common.{◌≡◌, Bool, true, false, cond, ◌&&◌, leb, Ok, Err, Result}
 use Rattle.bearing.specs.declared.fault.Fault.{Fault}
 use Rattle.bearing.specs.Refusals.{and_then}
 use Rattle.bearing.specs.Checks.{clash}

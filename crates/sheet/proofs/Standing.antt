@@ -1,14 +1,11 @@
 -- One line of a sheet, by what it changes: where the reader stands, the rows, or the cases. Assumes nothing.
-use Rattle.std.proofs.Common.{◌≡◌, ℕ, ◌+◌, ◌<◌, ◌≤◌, Bool, true, false, cond, ◌&&◌, eqb, List, [], ◌∷◌, length, get_or, drop, Ok, Err, codes, Result, sym, refl, ap, ◌∙◌, arith}
+use Rattle.std.proofs.Common.{◌≡◌, ℕ, ◌≤◌, true, false, List, [], ◌∷◌, length, get_or, drop, Ok, Err, codes, Result, sym, refl, ap, ◌∙◌, arith}
 use Rattle.std.proofs.lemmas.Bool.Decides.{nat_tests}
 use Rattle.bearing.specs.declared.fault.Fault.{Fault}
 use Rattle.bearing.specs.Refusals.{with_ok}
-use Rattle.sheet.specs.declared.machine.Stage.{Stage}
-use Rattle.sheet.specs.declared.machine.Stage.TheVariants.{WeightNames, WeightValue, RowNames, Rows, Cases}
 use Rattle.sheet.specs.Parts.{begins}
-use Rattle.sheet.specs.RowLines.{Row, row_line, lead_row, pendulum_row}
-use Rattle.sheet.specs.CaseLines.{Numbers}
-use Rattle.sheet.specs.Machine.{Standing, State, step_at, step, after, answer, cases_named, kept}
+use Rattle.sheet.specs.RowLines.{row_line, lead_row, pendulum_row}
+use Rattle.sheet.specs.Machine.{State, step, after, answer}
 
 answer_with : {S T : Type 0} (r : Result S Fault) (f : S → T) → answer (with_ok r f) ≡ answer r
 answer_with (Ok x) f = refl

@@ -5,7 +5,7 @@ use Rattle.bearing.specs.Refusals.{lined_fault, on_line}
 use Rattle.sheet.specs.Parts.{parts, first, rest, parts_of}
 use Rattle.sheet.specs.RowLines.{form_fault}
 use Rattle.sheet.specs.Machine.{State, step, after, answer}
-use Rattle.sheet.specs.Reading.{Content, finished, last_part, onward, read_lines, read_parts}
+use Rattle.sheet.specs.Reading.{last_part, onward, read_lines, read_parts}
 use Rattle.sheet.proofs.Cuts.{parts_cut}
 
 module _ (rp cp : ℕ) where

@@ -1,5 +1,5 @@
 -- What a whole reading gives back, and that every case that is read makes a case record. Assumes nothing.
-use Rattle.std.proofs.Common.{◌≡◌, ℕ, ◌+◌, ◌≤◌, Bool, true, false, cond, ◌&&◌, eqb, ltb, leb, List, [], ◌∷◌, ◌++◌, length, is_err, Some, None, Ok, Err, codes, Option, Result, sym, refl, ap, ◌∙◌, subst, arith}
+use Rattle.std.proofs.Common.{◌≡◌, ℕ, ◌+◌, ◌≤◌, Bool, true, false, cond, eqb, ltb, List, [], ◌∷◌, ◌++◌, length, is_err, Ok, Err, codes, Result, sym, refl, ap, ◌∙◌, subst, arith}
 use Rattle.std.specs.Option.{ok_or}
 use Rattle.std.proofs.lemmas.Bool.{cond-false, le-ltb}
 use Rattle.bearing.specs.declared.fault.Fault.{Fault}
@@ -7,7 +7,7 @@ use Rattle.bearing.specs.declared.fault.Refusal.TheVariants.{NoPlace}
 use Rattle.bearing.specs.declared.fault.Layer.TheVariants.{Bridge, Sheet}
 use Rattle.bearing.specs.Refusals.{and_then, at_field, on_line, out_of_range, plain_fault, with_ok}
 use Rattle.loading.specs.declared.weighing.Weight.{Weight}
-use Rattle.listing.specs.Lists.{push_answer, pushed, free}
+use Rattle.listing.specs.Lists.{free}
 use Rattle.loading.specs.Making.{case_made}
 use Rattle.sheet.specs.declared.machine.Stage.{Stage}
 use Rattle.sheet.specs.declared.machine.Stage.TheVariants.{WeightNames, WeightValue, RowNames, Rows, Cases}
@@ -17,7 +17,7 @@ use Rattle.sheet.specs.CaseLines.{Numbers, case_form, case_of, case_line}
 use Rattle.bearing.specs.Checks.{clash}
 use Rattle.sheet.proofs.Makings.{case_same}
 use Rattle.sheet.specs.Machine.{State, step_at, step, kept, cases_named}
-use Rattle.sheet.specs.Reading.{Content, weight_at_end, finished, last_part, onward, begun_with, read_lines, read_parts, read_sheet, rows_read, cases_read, AllMade}
+use Rattle.sheet.specs.Reading.{Content, weight_at_end, onward, begun_with, read_lines, read_parts, read_sheet, rows_read, cases_read, AllMade}
 
 shifted : (by : ℕ) (r : Result Numbers Fault) (m : Numbers) → at_field by r ≡ Ok m → r ≡ Ok m
 shifted by (Ok x) m e = e

@@ -1,5 +1,5 @@
 -- What a line may be depends on where the reader stands. Assumes nothing.
-use Rattle.std.specs.Prelude.{ℕ, ◌+◌, Bool, cond, ◌&&◌, List, [], ◌∷◌, length, Some, None, Ok, Err, codes, Option, Result, nat_lt}
+use Rattle.std.specs.Prelude.{ℕ, ◌+◌, cond, List, length, Some, Ok, Err, codes, Option, Result, nat_lt}
 use Rattle.std.specs.Option.{ok_or, option_map}
 use Rattle.bearing.specs.declared.fault.Fault.{Fault}
 use Rattle.bearing.specs.Refusals.{and_then, with_ok}

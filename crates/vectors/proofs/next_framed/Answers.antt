@@ -1,4 +1,4 @@
-use Rattle.std.proofs.Common.{◌≡◌, ℕ, List, Option, sym, ap, ◌∙◌, Bor}
+use Rattle.std.proofs.Common.{ℕ, List, Option, sym, ap, ◌∙◌, Bor}
 use Rattle.std.specs.Option.{option_map}
 use Rattle.sheet.specs.Numbers.{parsed}
 use Rattle.vectors.proofs.Framing.{framed}

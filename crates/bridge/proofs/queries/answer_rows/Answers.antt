@@ -1,4 +1,4 @@
-use Rattle.std.proofs.Common.{◌≡◌, ℕ, ◌<◌, ◌≤◌, length, sym, refl, ap, ◌∙◌, arith}
+use Rattle.std.proofs.Common.{◌<◌, length, arith}
 use Rattle.bridge.proofs.Answering.{found_near, refused_is, answered_is, high_is, high_there}
 use Rattle.bridge.proofs.queries.answer_rows.Goals as goal
 

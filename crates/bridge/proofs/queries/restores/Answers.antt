@@ -1,5 +1,5 @@
-use Rattle.std.proofs.Common.{ℕ, ◌+◌, ◌/◌, ◌≤◌, le_refl, arith}
-use Rattle.bridge.specs.Sums.{total, all_at}
+use Rattle.std.proofs.Common.{◌+◌, ◌/◌, le_refl, arith}
+use Rattle.bridge.specs.Sums.{all_at}
 use Rattle.bridge.proofs.Totals.{total_grows, total_limit}
 use Rattle.bridge.proofs.queries.restores.Goals as goal
 

@@ -1,4 +1,4 @@
-use Rattle.std.proofs.Common.{◌≡◌, ℕ, ◌-◌, ◌<◌, ◌≤◌, length, get_or, Ok, sym, ap, ◌∙◌, arith}
+use Rattle.std.proofs.Common.{◌≡◌, ℕ, ◌-◌, get_or, Ok, sym, ap, ◌∙◌, arith}
 use Rattle.bridge.specs.Sums.{at_row}
 use Rattle.bridge.specs.Answers.{highest}
 use Rattle.bridge.proofs.Totals.{at_row_is}

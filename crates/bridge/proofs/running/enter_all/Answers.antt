@@ -1,4 +1,4 @@
-use Rattle.std.proofs.Common.{◌≡◌, [], ◌∷◌, ◌++◌, sym, ap, ◌∙◌, ap₂, arith, take_all}
+use Rattle.std.proofs.Common.{[], ◌∷◌, ◌++◌, sym, ap, ◌∙◌, ap₂, arith, take_all}
 use Rattle.listing.specs.Lists.{items, capacity}
 use Rattle.bridge.specs.Calls.{hung_rows, call_replies, called, call_reply}
 use Rattle.bridge.proofs.Entering.{hung_next, replies_next, put_next}

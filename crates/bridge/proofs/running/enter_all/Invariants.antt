@@ -1,4 +1,4 @@
-use Rattle.std.proofs.Common.{◌≡◌, length, take}
+use Rattle.std.proofs.Common.{◌≡◌, take}
 use Rattle.listing.specs.Lists.{items, capacity}
 use Rattle.bridge.specs.Calls.{hung_rows, call_replies}
 use Rattle.bridge.proofs.running.enter_all.Given as goal

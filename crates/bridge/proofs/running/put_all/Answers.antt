@@ -1,4 +1,4 @@
-use Rattle.std.proofs.Common.{◌≡◌, [], ◌∷◌, ◌++◌, map, take, sym, ap, ◌∙◌, ap₂, arith, take_all}
+use Rattle.std.proofs.Common.{map, take, sym, ap, ◌∙◌, arith, take_all}
 use Rattle.listing.specs.Lists.{items}
 use Rattle.bridge.specs.Replay.{response_values, asked, Law, Each}
 use Rattle.bridge.proofs.Entering.{put_next, one_taken, each_append, map_append, subst₂}

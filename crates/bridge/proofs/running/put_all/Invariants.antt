@@ -1,4 +1,4 @@
-use Rattle.std.proofs.Common.{◌≡◌, map, length, take}
+use Rattle.std.proofs.Common.{◌≡◌, map, take}
 use Rattle.listing.specs.Lists.{items}
 use Rattle.bridge.specs.Replay.{response_values, asked, Law, Each}
 use Rattle.bridge.proofs.running.put_all.Given as goal

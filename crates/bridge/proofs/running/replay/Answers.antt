@@ -1,8 +1,8 @@
-use Rattle.std.proofs.Common.{◌≡◌, ℕ, min, true, false, List, [], length, sym, refl, ap, ◌∙◌, subst, ap₂, arith}
+use Rattle.std.proofs.Common.{min, List, length, sym, ap, ◌∙◌, subst, ap₂, arith}
 use Rattle.std.proofs.lemmas.Bool.Decides.{nat_tests}
 use Rattle.loading.specs.declared.weighing.Weight.{Weight}
 use Rattle.bridge.specs.declared.calls.Question.{Question}
-use Rattle.listing.specs.Lists.{items, capacity}
+use Rattle.listing.specs.Lists.{items}
 use Rattle.bridge.specs.Calls.{hung_rows, call_replies}
 use Rattle.bridge.specs.Replay.{Run, questions_of}
 use Rattle.bridge.proofs.Firsts.{true_false}

@@ -1,4 +1,4 @@
-use Rattle.std.proofs.Common.{◌≡◌, ℕ, ◌+◌, ◌-◌, ◌/◌, ◌<◌, ◌≤◌, true, false, sym, ap, ◌∙◌, arith}
+use Rattle.std.proofs.Common.{◌≡◌, ◌+◌, ◌-◌, ◌/◌, sym, ap, ◌∙◌, arith}
 use Rattle.bridge.specs.Sums.{met, all_at}
 use Rattle.bridge.proofs.Totals.{met_rises}
 use Rattle.bridge.proofs.Firsts.{design_some, design_none, misses_below, halved, none_left}

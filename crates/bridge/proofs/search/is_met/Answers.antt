@@ -1,5 +1,5 @@
-use Rattle.std.proofs.Common.{◌≡◌, ℕ, ◌+◌, ◌*◌, ◌≤◌, length, sym, ap, ◌∙◌, ap₂, arith}
-use Rattle.bridge.specs.Sums.{total, all_at, met}
+use Rattle.std.proofs.Common.{ℕ, ◌*◌, ap, arith}
+use Rattle.bridge.specs.Sums.{all_at, met}
 use Rattle.bridge.proofs.Totals.{product_top}
 use Rattle.bridge.proofs.search.is_met.Goals as goal
 

@@ -1,4 +1,4 @@
-use Rattle.std.proofs.Common.{◌≡◌, ℕ, ◌+◌, ◌≤◌, length, take, sym, ap, ◌∙◌, ap₂, arith, take_all}
+use Rattle.std.proofs.Common.{ℕ, ◌≤◌, sym, ap, ◌∙◌, arith, take_all}
 use Rattle.bridge.specs.Sums.{total, all_at}
 use Rattle.bridge.proofs.Totals.{total_none, total_next, energy_limit}
 use Rattle.bridge.proofs.search.totals.Goals as goal

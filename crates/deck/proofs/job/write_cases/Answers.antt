@@ -10,8 +10,8 @@ use Rattle.deck.proofs.Lines.{past, end_begun, ok_by, one_at_most, made_at, turn
 use Rattle.deck.proofs.job.write_cases.Goals as goal
 
 -- a line that is taken answers one case at most
-one-case : (c : goal.In-Ok) → c.in-Ok.one ≤ 1
-one-case c =
+one_case : (c : goal.In-Ok) → c.in-Ok.one ≤ 1
+one_case c =
     let o = case_outcome (items c.args.bridge.now.rows) c.args.bridge.now.weight.kn (get_or c.args.cases.now c.loop-numbers.numbers-index past) in
     omega (
       arith,
@@ -23,7 +23,7 @@ pub write_case-requires : goal.write_case-requires
 write_case-requires c = made_at c.args.cases.now c.loop-numbers.numbers-index past c.requires c.loop-numbers-test.true
 
 pub overflow_add-answered : goal.overflow_add-answered
-overflow_add-answered c = let one : c.in-Ok.one ≤ 1 = one-case c in omega arith
+overflow_add-answered c = let one : c.in-Ok.one ≤ 1 = one_case c in omega arith
 
 pub returns-in-Err : goal.returns-in-Err
 returns-in-Err c =
@@ -46,7 +46,7 @@ loop-numbers-preserved c =
     let rows = items c.args.bridge.now.rows in
     let W = c.args.bridge.now.weight.kn in
     let l : c.loop-numbers.numbers-index < length c.args.cases.now = omega arith in
-    let one : c.in-Ok.one ≤ 1 = one-case c in (
+    let one : c.in-Ok.one ≤ 1 = one_case c in (
       c.write_case.ensures.same ∙ c.loop-numbers.invariant.0,
       turn_taken rows W c.loop-numbers.page.buffer.now c.write_case.new.page.buffer.now c.loop-numbers.page.len c.write_case.new.page.len c.loop-numbers.page.cases c.write_case.new.page.cases c.loop-numbers.answered c.in-Ok.one c.loop-numbers.numbers-index c.args.cases.now past l
           c.in-Ok.ensures.result c.in-Ok.ensures.bytes c.in-Ok.ensures.len c.in-Ok.ensures.cases

@@ -1,4 +1,4 @@
-use Rattle.std.proofs.Common.{◌≡◌, ℕ, ◌-◌, List, Option, sym, refl, ap, ◌∙◌, arith, Bor}
+use Rattle.std.proofs.Common.{ℕ, ◌-◌, List, Option, sym, ap, ◌∙◌, arith, Bor}
 use Rattle.std.specs.Option.{option_map}
 use Rattle.deckpage.proofs.Parting.{first_part, next_part, no_part}
 use Rattle.deckpage.proofs.looking.part_at.Goals as goal

@@ -1,4 +1,4 @@
-use Rattle.std.proofs.Common.{◌≡◌, Ok, Err}
+use Rattle.std.proofs.Common.{◌≡◌, Ok}
 use Rattle.std.specs.Option.{ok_or}
 use Rattle.sheet.specs.RowLines.{form_fault}
 use Rattle.sheet.specs.CaseLines.{case_form}

@@ -1,4 +1,4 @@
-use Rattle.std.proofs.Common.{◌≡◌, ◌-◌, take, ap, ◌∙◌, arith}
+use Rattle.std.proofs.Common.{◌≡◌, ◌-◌, take, ap, arith}
 use Rattle.sheet.specs.Parts.{before}
 use Rattle.sheet.proofs.Cuts.{rest_at}
 use Rattle.sheet.proofs.parts.split_first.Goals as goal

@@ -1,12 +1,11 @@
-use Rattle.std.proofs.Common.{◌≡◌, ℕ, ◌<◌, length, Some, None, Ok, Err, sym, refl, ap, ◌∙◌, ap₂, arith}
+use Rattle.std.proofs.Common.{◌≡◌, length, Some, None, Err, sym, ap, ◌∙◌, ap₂, arith}
 use Rattle.std.specs.Option.{option_map}
 use Rattle.std.proofs.lemmas.Result.{err_from_is_err_and}
-use Rattle.bearing.specs.declared.fault.Fault.{Fault}
 use Rattle.bearing.specs.Refusals.{on_line, with_ok}
 use Rattle.loading.specs.declared.weighing.Weight.{Weight}
 use Rattle.listing.specs.Lists.{items, capacity}
-use Rattle.sheet.specs.Machine.{State, state_of, step, after, answer}
-use Rattle.sheet.specs.Parts.{rest, first, parts}
+use Rattle.sheet.specs.Machine.{state_of, step, after, answer}
+use Rattle.sheet.specs.Parts.{rest, first}
 use Rattle.sheet.specs.Reading.{Content}
 use Rattle.sheet.proofs.Cuts.{shorter}
 use Rattle.sheet.proofs.Turns.{run_none, run_ok, run_err, ok_at, err_at, last_some}

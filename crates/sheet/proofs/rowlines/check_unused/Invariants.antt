@@ -1,4 +1,4 @@
-use Rattle.std.proofs.Common.{◌≡◌, length, drop}
+use Rattle.std.proofs.Common.{◌≡◌, drop}
 use Rattle.sheet.specs.RowLines.{unused_zero}
 use Rattle.sheet.proofs.rowlines.check_unused.Given as goal
 

@@ -1,6 +1,6 @@
 use Rattle.std.proofs.Common.{◌≡◌, ℕ, ◌<◌, ◌≤◌, List, map, length, ap, ◌∙◌, arith, rules}
 use Rattle.bridge.specs.Outcomes.{outcome}
-use Rattle.page.specs.Runs.{run, page_run}
+use Rattle.page.specs.Runs.{page_run}
 use Rattle.page.proofs.Turns.{run_begun, run_taken, run_voided, run_ended}
 use Rattle.trials.proofs.pages.whole.Goals as goal
 

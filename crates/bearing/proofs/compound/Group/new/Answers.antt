@@ -1,5 +1,4 @@
-use Rattle.std.proofs.Common.{◌≡◌, is_ok, sym, ap, ◌∙◌, arith}
-use Rattle.bearing.specs.Compound.{count_checked}
+use Rattle.std.proofs.Common.{is_ok, sym, ap, ◌∙◌, arith}
 use Rattle.bearing.specs.Compounds.{force_counts, count_passed}
 use Rattle.bearing.proofs.compound.Group.new.Goals as goal
 

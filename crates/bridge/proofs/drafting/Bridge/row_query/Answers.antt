@@ -1,4 +1,4 @@
-use Rattle.std.proofs.Common.{◌≡◌, ◌≤◌, List, length, ap, ◌∙◌, ap₂, arith}
+use Rattle.std.proofs.Common.{◌≡◌, List, length, ap, ◌∙◌, ap₂, arith}
 use Rattle.loading.specs.declared.weighing.Weight.{Weight}
 use Rattle.bridge.specs.Answers.{row_queried}
 use Rattle.listing.specs.Lists.{items}

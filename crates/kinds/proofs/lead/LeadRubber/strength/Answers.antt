@@ -1,5 +1,4 @@
-use Rattle.std.proofs.Common.{◌*◌, ◌≤◌, refl, arith}
-use Rattle.std.proofs.lemmas.Nat.{mul-le}
+use Rattle.std.proofs.Common.{refl, arith}
 use Rattle.kinds.specs.Leads.{strength_of}
 use Rattle.kinds.specs.LeadsLemmas.{shaped_says, strength_pos, strength_top, strength_product}
 use Rattle.kinds.proofs.lead.LeadRubber.strength.Goals as goal

@@ -1,7 +1,7 @@
-use Rattle.std.proofs.Common.{◌≡◌, ℕ, ◌<◌, ◌≤◌, true, is_ok, ap, ◌∙◌, arith, rules}
-use Rattle.bearing.specs.Ranges.{factor, travel, top_force}
+use Rattle.std.proofs.Common.{◌≡◌, ℕ, true, is_ok, ap, ◌∙◌, arith, rules}
+use Rattle.bearing.specs.Ranges.{factor, travel}
 use Rattle.bearing.specs.Checks.{answered_by, unanswered_by}
-use Rattle.kinds.specs.Leads.{strength_of, stiffness_of, yield_of, bilinear_force, bilinear_energy, lead_formula, lead_energy_formula, lead_shaped}
+use Rattle.kinds.specs.Leads.{lead_formula, lead_energy_formula, lead_shaped}
 use Rattle.kinds.specs.LeadsLemmas.{response_is}
 use Rattle.kinds.proofs.lead.LeadRubberBearing.answer.Goals as goal
 

@@ -1,5 +1,5 @@
-use Rattle.std.proofs.Common.{◌≡◌, ℕ, ◌<◌, ◌≤◌, true, is_ok, ap, ◌∙◌, arith, rules}
-use Rattle.bearing.specs.Ranges.{factor, travel, top_force}
+use Rattle.std.proofs.Common.{◌≡◌, ℕ, true, is_ok, ap, ◌∙◌, arith, rules}
+use Rattle.bearing.specs.Ranges.{factor, travel}
 use Rattle.bearing.specs.Checks.{answered_by}
 use Rattle.kinds.specs.Pendulums.{sliding_force, sliding_energy, pendulum_ranged}
 use Rattle.kinds.proofs.sliding.PendulumBearing.answer.Goals as goal

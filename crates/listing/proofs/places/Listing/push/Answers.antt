@@ -1,4 +1,4 @@
-use Rattle.std.proofs.Common.{min, sym, ap, arith, length-set}
+use Rattle.std.proofs.Common.{min, ap, arith, length-set}
 use Rattle.std.proofs.lemmas.Bool.Decides.{nat_tests}
 use Rattle.listing.proofs.Listed.{push_written}
 use Rattle.listing.proofs.places.Listing.push.Goals as goal

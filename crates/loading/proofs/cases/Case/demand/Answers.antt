@@ -1,4 +1,4 @@
-use Rattle.std.proofs.Common.{◌≡◌, ℕ, ◌*◌, ◌≤◌, arith}
+use Rattle.std.proofs.Common.{◌≡◌, arith}
 use Rattle.loading.specs.Making.{demand_of}
 use Rattle.loading.specs.Sites.{site_tenths}
 use Rattle.loading.proofs.Demands.{site_low, site_top, product_top, demanded_low, demanded_top}

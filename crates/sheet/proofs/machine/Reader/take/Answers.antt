@@ -1,13 +1,12 @@
-use Rattle.std.proofs.Common.{◌≡◌, ℕ, ◌-◌, ◌≤◌, true, false, cond, List, length, get_or, take, drop, codes, Result, sym, refl, ap, ◌∙◌, arith, rules}
+use Rattle.std.proofs.Common.{◌≡◌, ◌≤◌, cond, length, get_or, Result, sym, refl, ap, ◌∙◌, arith, rules}
 use Rattle.std.proofs.lemmas.List.{take_rest}
 use Rattle.bearing.specs.declared.fault.Fault.{Fault}
 use Rattle.listing.specs.Lists.{items, capacity}
 use Rattle.bearing.specs.Refusals.{with_ok}
 use Rattle.listing.proofs.Listed.{items_few}
 use Rattle.sheet.specs.declared.machine.Stage.TheVariants.{Rows}
-use Rattle.sheet.specs.Parts.{begins}
 use Rattle.sheet.specs.RowLines.{Row, lead_row, pendulum_row, row_line}
-use Rattle.sheet.specs.Machine.{Standing, State, standing, state_of, step_at, step, weighed, named, row_names, cases_named, kept}
+use Rattle.sheet.specs.Machine.{standing, state_of, step_at, weighed, named, row_names, cases_named, kept}
 use Rattle.sheet.proofs.Standing.{changed, begins_case, begins_row, lead_is, pendulum_is}
 use Rattle.sheet.proofs.machine.Reader.take.Goals as goal
 
