@@ -1,6 +1,6 @@
 -- What the text of an ended page tells: every outcome on it. Assumes nothing.
 use Rattle.std.specs.Prelude.{◌≡◌, ℕ, ◌^◌, ◌<◌, List, length, take, Some, None, Option}
-use Rattle.std.specs.List.{AllByRecursion as All}
+use Rattle.std.specs.List.{AllByRecursion}
 use Rattle.bridge.specs.Outcomes.{Values, Outcome, Answered, Refused}
 use Rattle.page.specs.Runs.{page_run, Fits}
 
@@ -23,7 +23,7 @@ Sized (Refused n) = n < 2 ^ 64
 
 -- every number of each of these outcomes is below 2 ^ 64
 abbrev pub AllSized : List Outcome → Type 0
-AllSized os = All Sized os
+AllSized os = AllByRecursion Sized os
 
 -- the text that is written of a page of some outcomes, begun on the bytes old
 abbrev pub written_page : List ℕ → List Outcome → List ℕ

@@ -1,7 +1,7 @@
 -- A sheet that is accepted is the text of what was read, and that is a bridge. Assumes nothing.
 use Rattle.std.proofs.Common.{◌≡◌, ℕ, ◌+◌, ◌<◌, ◌≤◌, Bool, true, false, cond, ltb, List, [], ◌∷◌, ◌++◌, map, length, Some, None, Ok, Err, codes, decimal, Result, sym, refl, ap, ◌∙◌, subst, ap₂, arith}
 use Rattle.std.specs.Option.{ok_or}
-use Rattle.std.specs.List.{AllByRecursion as All}
+use Rattle.std.specs.List.{AllByRecursion}
 use Rattle.std.proofs.lemmas.List.{append-nil, append_assoc, length_push}
 use Rattle.std.proofs.lemmas.Bool.{ltb-true}
 use Rattle.bearing.specs.declared.fault.Fault.{Fault}
@@ -122,7 +122,7 @@ module _ (rp cp : ℕ) where
     content : record { weight = w; rows = xs ++ more; cases = cases } ≡ c
     rows_some : 0 < length (xs ++ more)
     rows_fit : length (xs ++ more) ≤ rp
-    rows_made : All RowMade more
+    rows_made : AllByRecursion RowMade more
     cases_some : 0 < length cases
     cases_fit : length cases ≤ cp
     cases_made : AllMade cases

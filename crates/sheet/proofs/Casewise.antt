@@ -1,7 +1,7 @@
 -- The line of a case, read from its text and back. Assumes nothing.
 use Rattle.std.proofs.Common.{◌≡◌, ℕ, ◌<◌, Bool, true, false, cond, eqb, List, [], ◌∷◌, Some, None, Ok, Err, codes, decimal, Option, sym, refl, ap, ◌∙◌, ap₂, arith}
 use Rattle.std.specs.Option.{ok_or}
-use Rattle.std.specs.List.{AllByRecursion as All}
+use Rattle.std.specs.List.{AllByRecursion}
 use Rattle.std.proofs.lemmas.Bool.{eqb-true, and_parts}
 use Rattle.bearing.specs.declared.fault.Layer.TheVariants.{Bridge, Sheet}
 use Rattle.bearing.specs.Ranges.{between}
@@ -126,7 +126,7 @@ rule_is_field : (r : SheetRule) → Field (rule_name r)
 rule_is_field (First t) = record { commas = (refl, tt); ends = (refl, tt); short = omega arith }
 rule_is_field (Second e) = record { commas = (refl, tt); ends = (refl, tt); short = omega arith }
 
-pub case_fields_are : (k : ℕ) (n : Numbers) → Small k → SmallCase n → All Field (case_fields k n)
+pub case_fields_are : (k : ℕ) (n : Numbers) → Small k → SmallCase n → AllByRecursion Field (case_fields k n)
 case_fields_are k n h s =
     (decimal_field k h, (decimal_field n.accel s.accel, (site_is_field n.site, (decimal_field n.slo s.slo, (decimal_field n.shi s.shi, (decimal_field n.klo s.klo, (decimal_field n.khi s.khi, (rule_is_field n.rule, tt))))))))
 

@@ -2,7 +2,7 @@
 use Rattle.std.proofs.Common.{◌≡◌, ℕ, ◌<◌, ◌≤◌, Bool, true, false, cond, eqb, List, [], ◌∷◌, ◌++◌, length, Some, None, decimal, Option, sym, refl, ap, ◌∙◌, arith, rules}
 use Rattle.std.specs.Str.Parse.{AllDigits}
 use Rattle.std.specs.Int.{IsInRange}
-use Rattle.std.specs.List.{AllByRecursion as All}
+use Rattle.std.specs.List.{AllByRecursion}
 use Rattle.std.proofs.lemmas.Fmt.{decimal_is_IsNumeral, length-decimal-le}
 use Rattle.std.proofs.lemmas.Str.Parse.{digit_from_value}
 use Rattle.std.proofs.lemmas.Bool.{eqb-true, ne_eqb}
@@ -12,7 +12,7 @@ use Rattle.sheet.proofs.Cuts.{parts_cut}
 
 -- a text without a mark
 abbrev pub Free : ℕ → List ℕ → Type 0
-Free m xs = All (λ x. eqb x m ≡ false) xs
+Free m xs = AllByRecursion (λ x. eqb x m ≡ false) xs
 
 -- the parts of a text, parted by the mark, are the text
 parted_more : (m x : ℕ) (fs : List (List ℕ)) → parted m (on_first x fs) ≡ x ∷ parted m fs
@@ -43,12 +43,12 @@ pub parts_next : (m : ℕ) (a b : List ℕ) → Free m a → parts m (a ++ (m �
 parts_next m [] b h = same_mark m b
 parts_next m (x ∷ xs) b h = ap (λ t. cond t ([] ∷ parts m (xs ++ (m ∷ b))) (on_first x (parts m (xs ++ (m ∷ b))))) h.0 ∙ ap (on_first x) (parts_next m xs b h.1)
 
-pub parts_parted : (m : ℕ) (f : List ℕ) (fs : List (List ℕ)) → All (Free m) (f ∷ fs) → parts m (parted m (f ∷ fs)) ≡ f ∷ fs
+pub parts_parted : (m : ℕ) (f : List ℕ) (fs : List (List ℕ)) → AllByRecursion (Free m) (f ∷ fs) → parts m (parted m (f ∷ fs)) ≡ f ∷ fs
 parts_parted m f [] h = parts_free m f h.0
 parts_parted m f (g ∷ gs) h = parts_next m f (parted m (g ∷ gs)) h.0 ∙ ap (λ hs. f ∷ hs) (parts_parted m g gs h.1)
 
 -- lines, each with its end, and the empty part after the last end
-pub parts_ended : (ls : List (List ℕ)) → All (Free 10) ls → parts 10 (ended ls) ≡ ls ++ ([] ∷ [])
+pub parts_ended : (ls : List (List ℕ)) → AllByRecursion (Free 10) ls → parts 10 (ended ls) ≡ ls ++ ([] ∷ [])
 parts_ended [] h = refl
 parts_ended (l ∷ ls) h = parts_next 10 l (ended ls) h.0 ∙ ap (λ ms. l ∷ ms) (parts_ended ls h.1)
 

@@ -1,7 +1,7 @@
 -- The text of a bridge is read back as that bridge. Assumes nothing.
 use Rattle.std.proofs.Common.{◌≡◌, ℕ, suc, ◌+◌, ◌*◌, ◌<◌, ◌≤◌, Bool, true, false, cond, eqb, ltb, List, [], ◌∷◌, ◌++◌, map, length, Some, None, Ok, Err, codes, decimal, Result, sym, refl, ap, ◌∙◌, ap₂, arith}
 use Rattle.std.specs.Option.{ok_or}
-use Rattle.std.specs.List.{AllByRecursion as All}
+use Rattle.std.specs.List.{AllByRecursion}
 use Rattle.std.proofs.ByRecursion.{All-append}
 use Rattle.std.proofs.lemmas.List.{append-nil, append_assoc, length-append, length_push, length-map}
 use Rattle.std.proofs.lemmas.Bool.{cond-false, lt-ltb, le-ltb}
@@ -34,12 +34,12 @@ record Line (l : List ℕ) : Type 0 where
   ends : Free 10 l
   short : length l < 64
 
-parted_ends : (fs : List (List ℕ)) → All Field fs → Free 10 (parted 44 fs)
+parted_ends : (fs : List (List ℕ)) → AllByRecursion Field fs → Free 10 (parted 44 fs)
 parted_ends [] h = tt
 parted_ends (f ∷ []) h = h.0.ends
 parted_ends (f ∷ (g ∷ gs)) h = All-append (λ x. eqb x 10 ≡ false) f (44 ∷ parted 44 (g ∷ gs)) h.0.ends (refl, parted_ends (g ∷ gs) h.1)
 
-parted_length : (fs : List (List ℕ)) → 0 < length fs → All Field fs → length (parted 44 fs) < 8 * length fs
+parted_length : (fs : List (List ℕ)) → 0 < length fs → AllByRecursion Field fs → length (parted 44 fs) < 8 * length fs
 parted_length [] some h = absurd (omega arith)
 parted_length (f ∷ []) some h = let s = h.0.short in omega arith
 parted_length (f ∷ (g ∷ gs)) some h =
@@ -74,11 +74,11 @@ case_is_line k n h e =
     let q : length (case_text k n) < 8 * 8 = parted_length (case_fields k n) (omega arith) fs in
     record { ends = parted_ends (case_fields k n) fs; short = omega arith }
 
-rows_are_lines : (rs : List Row) → All RowMade rs → All Line (map row_text rs)
+rows_are_lines : (rs : List Row) → AllByRecursion RowMade rs → AllByRecursion Line (map row_text rs)
 rows_are_lines [] h = tt
 rows_are_lines (r ∷ rs) h = (row_is_line r h.0, rows_are_lines rs h.1)
 
-cases_are_lines : (k : ℕ) (ns : List Numbers) → k + length ns ≤ 10000000 → AllMade ns → All Line (case_lines k ns)
+cases_are_lines : (k : ℕ) (ns : List Numbers) → k + length ns ≤ 10000000 → AllMade ns → AllByRecursion Line (case_lines k ns)
 cases_are_lines k [] few h = tt
 cases_are_lines k (n ∷ ns) few h = (case_is_line k n (omega arith) h.0, cases_are_lines (k + 1) ns (omega arith) h.1)
 
@@ -89,11 +89,11 @@ cases_count k (n ∷ ns) = ap suc (cases_count (k + 1) ns)
 weight_small : (w : ℕ) → weight_made w ≡ Ok w → Small w
 weight_small w e = small_between 1 1000000 w (omega arith) (of_cond (between 1 1000000 w) w w _ e).0
 
-lines_free : (ls : List (List ℕ)) → All Line ls → All (Free 10) ls
+lines_free : (ls : List (List ℕ)) → AllByRecursion Line ls → AllByRecursion (Free 10) ls
 lines_free [] h = tt
 lines_free (l ∷ ls) h = (h.0.ends, lines_free ls h.1)
 
-lines_short : (ls : List (List ℕ)) → All Line ls → length (ended ls) ≤ 64 * length ls
+lines_short : (ls : List (List ℕ)) → AllByRecursion Line ls → length (ended ls) ≤ 64 * length ls
 lines_short [] h = omega arith
 lines_short (l ∷ ls) h =
     let s = h.0.short in
@@ -148,7 +148,7 @@ module _ (rp cp : ℕ) where
       cond-false (begins (codes "case") (row_text r)) _ _ (row_begins r)
       ∙ ap (λ x. with_ok x (λ ys. at_rows w ys)) (kept_is rp xs r (row_line (row_text r)) (row_read r h) fit)
 
-  rows_on : (rs : List Row) (k w : ℕ) (xs : List Row) (ps : List (List ℕ)) → 0 < length ps → All RowMade rs → length xs + length rs ≤ rp →
+  rows_on : (rs : List Row) (k w : ℕ) (xs : List Row) (ps : List (List ℕ)) → 0 < length ps → AllByRecursion RowMade rs → length xs + length rs ≤ rp →
       read_parts rp cp k (at_rows w xs) (map row_text rs ++ ps) ≡ read_parts rp cp (k + length rs) (at_rows w (xs ++ rs)) ps
   rows_on [] k w xs ps some h fit = let t : k ≡ k + 0 = omega arith in ap₂ (λ (j : ℕ) (ys : List Row). read_parts rp cp j (at_rows w ys) ps) t (sym (append-nil xs))
   rows_on (r ∷ rs) k w xs ps some h fit =
@@ -182,7 +182,7 @@ module _ (rp cp : ℕ) where
       ∙ line_on (4 + length c.rows) (at_rows c.weight c.rows) (at_cases c.weight c.rows []) case_names (case_lines 1 c.cases ++ ([] ∷ [])) (some_parts (case_lines 1 c.cases)) (names_step c.weight c.rows v.rows_some)
       ∙ cases_on c.cases (4 + length c.rows + 1) c.weight c.rows [] v.cases_made (omega (arith, v.cases_fit)) few (omega (arith, v.cases_some))
 
-  sheet_are_lines : (c : Content) → Valid rp cp c → cp ≤ 16 → All Line (sheet_lines c)
+  sheet_are_lines : (c : Content) → Valid rp cp c → cp ≤ 16 → AllByRecursion Line (sheet_lines c)
   sheet_are_lines c v few =
       let d = decimal_field c.weight (weight_small c.weight v.weighed) in (
         record { ends = clear_free weight_names refl; short = omega arith },

@@ -1,7 +1,7 @@
 -- The line of a row, read from its text and back. Assumes nothing.
 use Rattle.std.proofs.Common.{◌≡◌, ℕ, zero, suc, ◌<◌, Bool, true, false, cond, eqb, ltb, leb, List, [], ◌∷◌, map, length, Some, None, Ok, Err, decimal, Option, Result, sym, refl, ap, ◌∙◌, subst, ap₂, arith}
 use Rattle.std.specs.Option.{ok_or}
-use Rattle.std.specs.List.{AllByRecursion as All}
+use Rattle.std.specs.List.{AllByRecursion}
 use Rattle.std.proofs.lemmas.Bool.{eqb-true, leb-true, ltb-false, and_parts}
 use Rattle.bearing.specs.declared.fault.Fault.{Fault}
 use Rattle.bearing.specs.declared.fault.Layer.TheVariants.{Bearing}
@@ -86,7 +86,7 @@ number_back xs c e =
     cut_back 44 xs (decimal p.0) q.0 (parsed_back (first 44 xs) p.0 p.1).text q.1 ∙ ap (λ (z : ℕ × List ℕ). decimal z.0 ∷ parts 44 z.1) s
 
 -- the numbers of fields
-sized_decimals : (ns : List ℕ) → All Small ns → sized (length ns) (map decimal ns) ≡ Some ns
+sized_decimals : (ns : List ℕ) → AllByRecursion Small ns → sized (length ns) (map decimal ns) ≡ Some ns
 sized_decimals [] h = refl
 sized_decimals (n ∷ ns) h = ap₂ cons_if (parsed_decimal n h.0) (sized_decimals ns h.1)
 
@@ -107,7 +107,7 @@ sized_back (suc k) (f ∷ fs) ns e =
     )
 
 -- the count and the five numbers
-form_is : (text : List ℕ) (n : ℕ) (ps : List ℕ) → parts 44 text ≡ map decimal (n ∷ ps) → length ps ≡ 5 → Small n → All Small ps → row_form text ≡ Some (n, ps)
+form_is : (text : List ℕ) (n : ℕ) (ps : List ℕ) → parts 44 text ≡ map decimal (n ∷ ps) → length ps ≡ 5 → Small n → AllByRecursion Small ps → row_form text ≡ Some (n, ps)
 form_is text n [] e l h hs = absurd (omega arith)
 form_is text n (p ∷ ps) e l h hs =
     let c = number_next text n (decimal p) (map decimal ps) e h in
@@ -125,7 +125,7 @@ form_back text c e =
     )
 
 module _ {K : Type 0} (own : ℕ) (ranged : List ℕ → Result (Unit {0}) Fault) (made : List ℕ → Result K Fault) where
-  kind_is : (text : List ℕ) (n : ℕ) (ps : List ℕ) (b : K) → parts 44 text ≡ map decimal (n ∷ ps) → length ps ≡ 5 → Small n → All Small ps →
+  kind_is : (text : List ℕ) (n : ℕ) (ps : List ℕ) (b : K) → parts 44 text ≡ map decimal (n ∷ ps) → length ps ≡ 5 → Small n → AllByRecursion Small ps →
       count_checked n ≡ Ok tt → ranged ps ≡ Ok tt → unused_zero own 0 ps ≡ Ok tt → made ps ≡ Ok b → kind_row own ranged made text ≡ Ok (n, b)
   kind_is text n ps b e l h hs counted inside unused is =
       then_ok (ok_or (row_form text) form_fault) (n, ps) _ _ (ap (λ o. ok_or o form_fault) (form_is text n ps e l h hs))
@@ -161,7 +161,7 @@ module _ {K : Type 0} (own : ℕ) (ranged : List ℕ → Result (Unit {0}) Fault
 in_field : (x low high place : ℕ) (u : Unit {0}) → high < 10000000 → field_checked x low high place ≡ Ok u → Small x
 in_field x low high place u h e = small_between low high x h (of_cond (between low high x) tt u (out_of_range Bearing place) e).0
 
-lead_small : (b : LeadRubber) → lead_ranged b ≡ Ok tt → All Small (five (First b))
+lead_small : (b : LeadRubber) → lead_ranged b ≡ Ok tt → AllByRecursion Small (five (First b))
 lead_small b e =
     let a = of_then (field_checked b.lead 10 400 1) _ tt e in
     let c = of_then (field_checked b.stress 50 200 2) _ tt a.2 in
@@ -180,7 +180,7 @@ lead_small b e =
       ),
     )
 
-pendulum_small : (b : Pendulum) → pendulum_ranged b ≡ Ok tt → All Small (five (Second b))
+pendulum_small : (b : Pendulum) → pendulum_ranged b ≡ Ok tt → AllByRecursion Small (five (Second b))
 pendulum_small b e =
     let a = of_then (field_checked b.load 10 20000 1) _ tt e in
     let c = of_then (field_checked b.friction 10 200 2) _ tt a.2 in
@@ -201,7 +201,7 @@ pendulum_in : (b : Pendulum) → pendulum_checked b ≡ Ok b → pendulum_ranged
 pendulum_in b e = (of_then (pendulum_ranged b) _ b e).1
 
 -- the numbers of a row that is made are small
-five_small : (m : Either LeadRubber Pendulum) → BearingMade m → All Small (five m)
+five_small : (m : Either LeadRubber Pendulum) → BearingMade m → AllByRecursion Small (five m)
 five_small (First b) e = lead_small b (lead_in b e)
 five_small (Second b) e = pendulum_small b (pendulum_in b e)
 
@@ -211,16 +211,16 @@ count_in m n r e = (of_then (count_checked n) _ r e).1
 count_small : (n : ℕ) → count_checked n ≡ Ok tt → Small n
 count_small n e = small_between 1 20 n (omega arith) (of_cond (between 1 20 n) tt tt _ e).0
 
-decimal_fields : (ns : List ℕ) → All Small ns → All Field (map decimal ns)
+decimal_fields : (ns : List ℕ) → AllByRecursion Small ns → AllByRecursion Field (map decimal ns)
 decimal_fields [] h = tt
 decimal_fields (n ∷ ns) h = (decimal_field n h.0, decimal_fields ns h.1)
 
-pub fields_free : (fs : List (List ℕ)) → All Field fs → All (Free 44) fs
+pub fields_free : (fs : List (List ℕ)) → AllByRecursion Field fs → AllByRecursion (Free 44) fs
 fields_free [] h = tt
 fields_free (f ∷ fs) h = (h.0.commas, fields_free fs h.1)
 
 -- the text after a row's letter
-tail_parts : (n : ℕ) (ns : List ℕ) → All Small (n ∷ ns) → parts 44 (parted 44 (map decimal (n ∷ ns))) ≡ map decimal (n ∷ ns)
+tail_parts : (n : ℕ) (ns : List ℕ) → AllByRecursion Small (n ∷ ns) → parts 44 (parted 44 (map decimal (n ∷ ns))) ≡ map decimal (n ∷ ns)
 tail_parts n ns h = parts_parted 44 (decimal n) (map decimal ns) (fields_free (map decimal (n ∷ ns)) (decimal_fields (n ∷ ns) h))
 
 row_is : (n : ℕ) (m : Either LeadRubber Pendulum) (r : Row) → BearingMade m → group_made kind_force n m ≡ Ok r → row_line (row_text (group_of n m)) ≡ Ok r
@@ -248,7 +248,7 @@ letter_field : (m : Either LeadRubber Pendulum) → Field (letter m ∷ [])
 letter_field (First b) = record { commas = (refl, tt); ends = (refl, tt); short = omega arith }
 letter_field (Second b) = record { commas = (refl, tt); ends = (refl, tt); short = omega arith }
 
-pub row_fields_are : (r : Row) → RowMade r → All Field (row_fields r)
+pub row_fields_are : (r : Row) → RowMade r → AllByRecursion Field (row_fields r)
 row_fields_are r h = (
   letter_field r.member,
   decimal_fields (r.count ∷ five r.member) (count_small r.count (count_in r.member r.count r h.group), five_small r.member h.bearing),

@@ -1,6 +1,6 @@
 -- The text of a bridge: its weight, its rows and its load cases, as a sheet. Assumes nothing.
 use Rattle.std.specs.Prelude.{◌≡◌, ℕ, ◌+◌, ◌<◌, ◌≤◌, ◌↔◌, List, [], ◌∷◌, ◌++◌, map, length, Ok, codes, decimal}
-use Rattle.std.specs.List.{AllByRecursion as All}
+use Rattle.std.specs.List.{AllByRecursion}
 use Rattle.kinds.specs.declared.lead.LeadRubber.{LeadRubber}
 use Rattle.kinds.specs.declared.sliding.Pendulum.{Pendulum}
 use Rattle.bearing.specs.declared.compound.Either.{Either}
@@ -96,7 +96,7 @@ pub record Valid (row_places case_places : ℕ) (c : Content) : Type 0 where
   pub weighed : weight_made c.weight ≡ Ok c.weight
   pub rows_some : 0 < length c.rows
   pub rows_fit : length c.rows ≤ row_places
-  pub rows_made : All RowMade c.rows
+  pub rows_made : AllByRecursion RowMade c.rows
   pub cases_some : 0 < length c.cases
   pub cases_fit : length c.cases ≤ case_places
   pub cases_made : AllMade c.cases
