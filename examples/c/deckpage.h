@@ -1,5 +1,5 @@
 /* deckpage for C: a sheet of a bridge deck on isolation bearings in, its page out.
- * Link with libdeckapi.a (made by `rt staticlib deckapi`) and librattle_c.a. */
+ * Link with libdeckapi.a alone: `rt lib` in crates/deckapi makes it, in out/. */
 #ifndef DECKPAGE_H
 #define DECKPAGE_H
 
