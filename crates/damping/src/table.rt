@@ -1,4 +1,4 @@
-ghost use Rattle.std.specs.Prelude.{◌≡◌, ◌*◌, ◌≤◌, ◌&&◌, leb, if◌then◌else◌, Some, None, nat_le};
+ghost use Rattle.std.specs.Prelude.{◌≡◌, ◌*◌, ◌≤◌, ◌&&◌, if◌then◌else◌, Some, None, nat_le};
 ghost use Rattle.damping.specs.Table.{read_table, table as factors, scaled_factor, table_says, NothingLost};
 ghost use Rattle.damping.specs.Growth.{table_laws};
 
@@ -37,7 +37,7 @@ fn on_segment(e: u64, p: u64) -> u64
 impl TableRule {
     // 21,300 × P × B by the table, a whole number with nothing lost by rounding; none outside the ranges of E and P.
     pub fn scaled_factor(e: u64, p: u64) -> Option<u64>
-        ensures value { result ≡ (if leb e p && nat_le p 64000000000000 then Some (scaled_factor e p) else None) }
+        ensures value { result ≡ (if nat_le e p && nat_le p 64000000000000 then Some (scaled_factor e p) else None) }
         ensures exact { NothingLost }
     {
         if e <= p && p <= 64_000_000_000_000 {
