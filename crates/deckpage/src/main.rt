@@ -2,7 +2,8 @@
 
 #![tactic(auto)]
 
-ghost use Rattle.std.specs.Prelude.{◌≡◌, ◌≤◌, true, false, length, is_ok, IfOk, Ok, Err};
+ghost use Rattle.std.specs.Prelude.{◌≡◌, ◌≤◌, true, false, cond, length, is_ok, IfOk, Ok, Err};
+ghost use Rattle.std.specs.Process.{exit_status};
 ghost use Rattle.deckpage.specs.declared.Stopped.TheVariants.{Refused, Failed};
 ghost use Rattle.deckpage.specs.Answering.{job_of};
 
@@ -109,10 +110,17 @@ fn run(rt: &HostRuntime) -> Result<(), Stopped> {
     }
 }
 
-// Status 0 where the sheet is accepted or help was asked for, else 1: what there is to say has been said by then.
-fn main(rt: HostRuntime) -> ExitCode {
-    match run(&rt) {
+// The exit status: 0 where the program ended well, else 1.
+fn status_of(ended: Result<(), Stopped>) -> ExitCode
+    ensures { exit_status result ≡ cond (is_ok ended) 0 1 }
+{
+    match ended {
         Ok(()) => ExitCode::SUCCESS,
         Err(_) => ExitCode::FAILURE,
     }
+}
+
+// What there is to say has been said when `run` is done.
+fn main(rt: HostRuntime) -> ExitCode {
+    status_of(run(&rt))
 }
