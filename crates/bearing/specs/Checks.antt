@@ -3,6 +3,7 @@ use Rattle.std.specs.Prelude.{◌≡◌, ℕ, ◌<◌, ◌≤◌, Bool, true, fa
 use Rattle.std.proofs.Common.{sym, ap, ◌∙◌, arith}
 use Rattle.std.proofs.lemmas.Bool.{false≢true, le-leb, lt-leb}
 use Rattle.bearing.specs.declared.fault.Fault.{Fault}
+use Rattle.bearing.specs.declared.fault.Layer.{Layer}
 use Rattle.bearing.specs.Ranges.{between, top_force}
 use Rattle.bearing.specs.Refusals.{and_then}
 use Rattle.bearing.specs.Fields.{field_checked, force_checked}
@@ -35,20 +36,20 @@ cond_ok true x e = refl
 cond_ok false x e = refl
 
 -- where the checks before it passed, a bearing is accepted just where its greatest force is within the limit
-pub accepted_is : {T : Type 0} (r : Result (Unit {0}) Fault) (g : ℕ) (b : T) → is_ok r ≡ true → is_ok (and_then r (λ _. force_checked g b)) ≡ nat_le g top_force
-accepted_is (Ok x) g b h = cond_ok (nat_le g top_force) b _
-accepted_is (Err e) g b h = absurd (false≢true h)
+pub accepted_is : {T : Type 0} (layer : Layer) (r : Result (Unit {0}) Fault) (g : ℕ) (b : T) → is_ok r ≡ true → is_ok (and_then r (λ _. force_checked layer g b)) ≡ nat_le g top_force
+accepted_is layer (Ok x) g b h = cond_ok (nat_le g top_force) b _
+accepted_is layer (Err e) g b h = absurd (false≢true h)
 
 -- the formulas then are its force and energy
-pub answered_by : {T : Type 0} (r : Result (Unit {0}) Fault) (g : ℕ) (b : T) (f e : Curve) (s k d : ℕ) → is_ok r ≡ true → g ≤ top_force →
-    ◌≡◌ {A = ℕ × ℕ} (clamped f s k d, clamped e s k d) (if_accepted (is_ok (and_then r (λ _. force_checked g b))) f s k d, if_accepted (is_ok (and_then r (λ _. force_checked g b))) e s k d)
-answered_by r g b f e s k d h low =
-    let t : is_ok (and_then r (λ _. force_checked g b)) ≡ true = accepted_is r g b h ∙ le-leb g top_force low in
+pub answered_by : {T : Type 0} (layer : Layer) (r : Result (Unit {0}) Fault) (g : ℕ) (b : T) (f e : Curve) (s k d : ℕ) → is_ok r ≡ true → g ≤ top_force →
+    ◌≡◌ {A = ℕ × ℕ} (clamped f s k d, clamped e s k d) (if_accepted (is_ok (and_then r (λ _. force_checked layer g b))) f s k d, if_accepted (is_ok (and_then r (λ _. force_checked layer g b))) e s k d)
+answered_by layer r g b f e s k d h low =
+    let t : is_ok (and_then r (λ _. force_checked layer g b)) ≡ true = accepted_is layer r g b h ∙ le-leb g top_force low in
     sym (ap (λ (v : Bool). (if_accepted v f s k d, if_accepted v e s k d)) t)
 
 -- and above the limit both are 0
-pub unanswered_by : {T : Type 0} (r : Result (Unit {0}) Fault) (g : ℕ) (b : T) (f e : Curve) (s k d : ℕ) → is_ok r ≡ true → top_force < g →
-    ◌≡◌ {A = ℕ × ℕ} (0, 0) (if_accepted (is_ok (and_then r (λ _. force_checked g b))) f s k d, if_accepted (is_ok (and_then r (λ _. force_checked g b))) e s k d)
-unanswered_by r g b f e s k d h above =
-    let t : is_ok (and_then r (λ _. force_checked g b)) ≡ false = accepted_is r g b h ∙ lt-leb g top_force above in
+pub unanswered_by : {T : Type 0} (layer : Layer) (r : Result (Unit {0}) Fault) (g : ℕ) (b : T) (f e : Curve) (s k d : ℕ) → is_ok r ≡ true → top_force < g →
+    ◌≡◌ {A = ℕ × ℕ} (0, 0) (if_accepted (is_ok (and_then r (λ _. force_checked layer g b))) f s k d, if_accepted (is_ok (and_then r (λ _. force_checked layer g b))) e s k d)
+unanswered_by layer r g b f e s k d h above =
+    let t : is_ok (and_then r (λ _. force_checked layer g b)) ≡ false = accepted_is layer r g b h ∙ lt-leb g top_force above in
     sym (ap (λ (v : Bool). (if_accepted v f s k d, if_accepted v e s k d)) t)

@@ -1,20 +1,13 @@
--- Either of two kinds of bearing, and a group of equal bearings. Assumes nothing.
-use Rattle.std.specs.Prelude.{ℕ, ◌*◌, cond, Ok, Err, Result, nat_le}
-use Rattle.bearing.specs.declared.fault.Refusal.TheVariants.{TooStrong}
+-- A group of equal bearings. Assumes nothing.
+use Rattle.std.specs.Prelude.{ℕ, ◌*◌, cond, Result, nat_le}
 use Rattle.bearing.specs.declared.fault.Layer.TheVariants.{Bridge}
 use Rattle.bearing.specs.declared.fault.Fault.{Fault}
-use Rattle.bearing.specs.declared.compound.Either.{Either}
-use Rattle.bearing.specs.declared.compound.Either.TheVariants.{First, Second}
 use Rattle.bearing.specs.declared.compound.Group.{Group}
-use Rattle.bearing.specs.Ranges.{between, top_force}
+use Rattle.bearing.specs.Ranges.{top_force}
 use Rattle.bearing.specs.Laws.{Curve}
 use Rattle.bearing.specs.Curves.{clamped}
-use Rattle.bearing.specs.Refusals.{out_of_range, plain_fault, and_then}
-
--- the force or the energy of the kind that a bearing is of
-abbrev pub by_kind : {X Y : Type 0} → (X → Curve) → (Y → Curve) → Either X Y → Curve
-by_kind f g (First x) = f x
-by_kind f g (Second y) = g y
+use Rattle.bearing.specs.Refusals.{and_then}
+use Rattle.bearing.specs.Fields.{range_checked, force_checked}
 
 -- how many bearings a group of n counts as, where one has the force f: 1 where n are above the limit
 abbrev pub counted : ℕ → Curve → ℕ
@@ -38,12 +31,10 @@ group_of n b = record { count = n; member = b }
 
 -- a group has 1 to 20 bearings
 abbrev pub count_checked : ℕ → Result (Unit {0}) Fault
-count_checked n = cond (between 1 20 n) (Ok tt) (Err (out_of_range Bridge 1))
+count_checked n = range_checked Bridge n 1 20 1
 
 -- the group of 1 to 20 such bearings, or why it is refused: the count first, then the greatest force
 abbrev pub group_made : {B : Type 0} → (B → Curve) → ℕ → B → Result (Group B) Fault
 group_made force n b =
     and_then (count_checked n) (λ _.
-    cond (nat_le (n * force b 300 300 10000) top_force)
-    (Ok (group_of n b))
-    (Err (plain_fault TooStrong Bridge)))
+    force_checked Bridge (n * force b 300 300 10000) (group_of n b))

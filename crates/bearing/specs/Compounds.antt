@@ -6,16 +6,17 @@ use Rattle.std.proofs.lemmas.Bool.{cond_both, leb-true}
 use Rattle.bearing.specs.Ranges.{between, top_force}
 use Rattle.bearing.specs.Laws.{Laws, Curve}
 use Rattle.bearing.specs.Curves.{clamped}
-use Rattle.bearing.specs.Compound.{by_kind, counted, times, count_checked}
-use Rattle.bearing.specs.declared.compound.Either.{Either}
-use Rattle.bearing.specs.declared.compound.Either.TheVariants.{First, Second}
+use Rattle.bearing.specs.Compound.{counted, times, count_checked}
+use Rattle.either.specs.declared.Either.{Either}
+use Rattle.either.specs.declared.Either.TheVariants.{Left, Right}
+use Rattle.either.specs.Either.{either}
 use Rattle.bearing.specs.CurvesLemmas.{Formulas, clamped_laws}
 use Rattle.bearing.specs.Numbers.{between_says}
 use Rattle.bearing.specs.Checks.{cond_passed}
 
-pub by_kind_laws : {X Y : Type 0} (f e : X → Curve) (f' e' : Y → Curve) → ((x : X) → Laws (f x) (e x)) → ((y : Y) → Laws (f' y) (e' y)) → (b : Either X Y) → Laws (by_kind f f' b) (by_kind e e' b)
-by_kind_laws f e f' e' l l' (First x) = l x
-by_kind_laws f e f' e' l l' (Second y) = l' y
+pub either_laws : {X Y : Type 0} (f e : X → Curve) (f' e' : Y → Curve) → ((x : X) → Laws (f x) (e x)) → ((y : Y) → Laws (f' y) (e' y)) → (b : Either X Y) → Laws (either f f' b) (either e e' b)
+either_laws f e f' e' l l' (Left x) = l x
+either_laws f e f' e' l l' (Right y) = l' y
 
 module _ {f e : Curve} (l : Laws f e) where
   -- n times the bearing, where the greatest force stays below the limit

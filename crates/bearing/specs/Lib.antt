@@ -8,3 +8,4 @@ pub mod Compounds
 pub mod CurvesLemmas
 pub mod Numbers
 pub mod Checks
+pub mod Words

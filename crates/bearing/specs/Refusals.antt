@@ -66,3 +66,8 @@ and_then (Err e) f = Err e
 abbrev pub with_ok : {S T : Type 0} → Result S Fault → (S → T) → Result T Fault
 with_ok (Ok x) f = Ok (f x)
 with_ok (Err e) f = Err e
+
+-- an answer as one number: 0, or the number of its refusal
+abbrev pub refusal_number : {T : Type 0} → Result T Fault → ℕ
+refusal_number (Ok x) = 0
+refusal_number (Err e) = number_of e.refusal

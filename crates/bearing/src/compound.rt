@@ -1,29 +1,27 @@
 ghost use Rattle.std.specs.Prelude.{◌≡◌, ◌≤◌};
-ghost use Rattle.bearing.specs.Compound.{by_kind, counted, group_force, group_energy, count_checked, group_made};
-ghost use Rattle.bearing.specs.Compounds.{by_kind_laws, group_laws};
+ghost use Rattle.either.specs.Either.{either};
+ghost use Rattle.bearing.specs.Compound.{counted, group_force, group_energy, count_checked, group_made};
+ghost use Rattle.bearing.specs.Compounds.{either_laws, group_laws};
 
-use crate::fault::{Fault, Layer, Refusal};
-use crate::ranges::{TOP_FACTOR, TOP_FORCE, TOP_TRAVEL, nearest_factor, nearest_travel, off_sheet};
+use crate::fault::{Fault, Layer};
+use crate::ranges::{
+    TOP_FACTOR, TOP_FORCE, TOP_TRAVEL, check_force, check_range, nearest_factor, nearest_travel,
+};
 use crate::traits::Bearing;
+use either::Either;
 
 // A bearing of either of two kinds.
-#[derive(Clone, Copy)]
-pub enum Either<X, Y> {
-    First(X),
-    Second(Y),
-}
-
 impl<X: Bearing, Y: Bearing> Bearing for Either<X, Y> {
-    ghost force = { by_kind X.Bearing.force Y.Bearing.force };
+    ghost force = { either X.Bearing.force Y.Bearing.force };
 
-    ghost energy = { by_kind X.Bearing.energy Y.Bearing.energy };
+    ghost energy = { either X.Bearing.energy Y.Bearing.energy };
 
-    ghost laws = { by_kind_laws X.Bearing.force X.Bearing.energy Y.Bearing.force Y.Bearing.energy X.Bearing.laws Y.Bearing.laws };
+    ghost laws = { either_laws X.Bearing.force X.Bearing.energy Y.Bearing.force Y.Bearing.energy X.Bearing.laws Y.Bearing.laws };
 
     fn answer(&self, s: u16, k: u16, d: u16) -> (u64, u64) {
         match self {
-            Either::First(x) => x.answer(s, k, d),
-            Either::Second(y) => y.answer(s, k, d),
+            Either::Left(x) => x.answer(s, k, d),
+            Either::Right(y) => y.answer(s, k, d),
         }
     }
 }
@@ -39,10 +37,7 @@ pub struct Group<B> {
 pub fn check_count(count: u32) -> Result<(), Fault>
     ensures { result ≡ count_checked count }
 {
-    if count < 1 || count > 20 {
-        return Err(off_sheet(Refusal::OutOfRange, Layer::Bridge, 1));
-    }
-    Ok(())
+    check_range(count, 1, 20, Layer::Bridge, 1)
 }
 
 impl<B: Bearing + Copy> Group<B> {
@@ -51,13 +46,11 @@ impl<B: Bearing + Copy> Group<B> {
     {
         check_count(count)?;
         let (greatest, _) = member.answer(TOP_FACTOR, TOP_FACTOR, TOP_TRAVEL);
-        if count as u64 * greatest > TOP_FORCE {
-            return Err(off_sheet(Refusal::TooStrong, Layer::Bridge, 0));
-        }
-        Ok(Group {
+        let group = Group {
             count: count as u8,
             member,
-        })
+        };
+        check_force(count as u64 * greatest, group, Layer::Bridge)
     }
 }
 

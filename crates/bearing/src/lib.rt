@@ -7,10 +7,11 @@ mod compound;
 mod fault;
 mod ranges;
 mod traits;
+mod words;
 
-pub use compound::{Either, Group, check_count};
-pub use fault::{Fault, Layer, Refusal, at_field, on_line};
+pub use compound::{Group, check_count};
+pub use fault::{Fault, Layer, Refusal, at_field, on_line, refusal_number};
 pub use ranges::{
-    TOP_FACTOR, TOP_FORCE, TOP_TRAVEL, nearest_factor, nearest_travel, off_sheet, ranged_field,
+    TOP_FACTOR, TOP_FORCE, TOP_TRAVEL, check_force, check_range, nearest_factor, nearest_travel,
 };
 pub use traits::{Bearing, SheetKind};

@@ -1,7 +1,6 @@
 ghost use Rattle.std.specs.Prelude.{◌≡◌};
 ghost use Rattle.bearing.specs.Ranges.{factor, travel};
-ghost use Rattle.bearing.specs.Refusals.{fault_of};
-ghost use Rattle.bearing.specs.Fields.{field_checked};
+ghost use Rattle.bearing.specs.Fields.{range_checked, force_checked};
 
 use crate::fault::{Fault, Layer, Refusal};
 
@@ -19,7 +18,7 @@ pub const TOP_TRAVEL: u16 = 10_000;
 pub fn nearest_factor(x: u16) -> u16
     ensures { result ≡ factor x }
 {
-    x.max(LEAST_FACTOR).min(TOP_FACTOR)
+    x.clamp(LEAST_FACTOR, TOP_FACTOR)
 }
 
 // A displacement outside its range counts as the nearest end.
@@ -29,25 +28,23 @@ pub fn nearest_travel(x: u16) -> u16
     x.min(TOP_TRAVEL)
 }
 
-// A fault off a sheet: its line is 0.
-pub fn off_sheet(refusal: Refusal, layer: Layer, field: u8) -> Fault
-    ensures { result ≡ fault_of refusal layer field }
-{
-    Fault {
-        refusal,
-        layer,
-        line: 0,
-        field,
-    }
-}
-
-// A field of a bearing outside its range is refused with its place.
-pub fn ranged_field(x: u32, low: u32, high: u32, place: u8) -> Result<(), Fault>
-    ensures { result ≡ field_checked x low high place }
+// A number outside its range is refused with its field.
+pub fn check_range(x: u32, low: u32, high: u32, layer: Layer, field: u8) -> Result<(), Fault>
+    ensures { result ≡ range_checked layer x low high field }
 {
     if low <= x && x <= high {
         Ok(())
     } else {
-        Err(off_sheet(Refusal::OutOfRange, Layer::Bearing, place))
+        Err(Fault::new(Refusal::OutOfRange, layer, field))
     }
+}
+
+// What was made, where its greatest force is within the limit.
+pub fn check_force<T: Drop>(greatest: u64, made: T, layer: Layer) -> Result<T, Fault>
+    ensures { result ≡ force_checked layer greatest made }
+{
+    if greatest > TOP_FORCE {
+        return Err(layer.refuses(Refusal::TooStrong));
+    }
+    Ok(made)
 }

@@ -23,9 +23,9 @@ pub trait SheetKind: Bearing + Sized {
 
     const FIELDS: usize;
 
-    ghost letter: { ℕ };
+    ghost LETTER: { ℕ };
 
-    ghost fields: { ℕ };
+    ghost FIELDS: { ℕ };
 
     // each of the kind's own fields in its range, from left to right
     ghost ranged: { List ℕ → Result (Unit {0}) Fault };
@@ -33,18 +33,11 @@ pub trait SheetKind: Bearing + Sized {
     // the bearing of these fields, or why it is refused
     ghost made: { List ℕ → Result Self Fault };
 
-    // The constants as calls: no clause can speak of a constant of a type parameter.
-    fn its_letter() -> char
-        ensures { result ≡ letter };
-
-    fn its_fields() -> usize
-        ensures { result ≡ fields };
-
     fn check_ranges(p: &[u32; 5]) -> Result<(), Fault>
         ensures { result ≡ ranged p.now };
 
     fn make(p: &[u32; 5]) -> Result<Self, Fault>
         ensures { result ≡ made p.now };
 
-    ghost few: { fields ≤ 5 };
+    ghost few: { FIELDS ≤ 5 };
 }

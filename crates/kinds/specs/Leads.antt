@@ -69,7 +69,7 @@ lead_shaped b =
 
 -- then the greatest force
 abbrev pub lead_checked : LeadRubber → Result LeadRubber Fault
-lead_checked b = and_then (lead_shaped b) (λ _. force_checked (lead_formula b 300 300 10000) b)
+lead_checked b = and_then (lead_shaped b) (λ _. force_checked Bearing (lead_formula b 300 300 10000) b)
 
 -- the bearing of these fields, accepted or not
 abbrev pub lead_of : ℕ → ℕ → ℕ → ℕ → ℕ → LeadRubber

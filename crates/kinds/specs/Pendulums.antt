@@ -1,5 +1,6 @@
 -- A pendulum bearing: its formulas, its making, its force and energy. Assumes nothing.
 use Rattle.std.specs.Prelude.{ℕ, ◌+◌, ◌*◌, ◌/◌, cond, List, is_ok, Result, nat_le, slice_index}
+use Rattle.bearing.specs.declared.fault.Layer.TheVariants.{Bearing}
 use Rattle.bearing.specs.declared.fault.Fault.{Fault}
 use Rattle.kinds.specs.declared.sliding.Pendulum.{Pendulum}
 use Rattle.bearing.specs.Laws.{Curve}
@@ -35,7 +36,7 @@ pendulum_ranged b =
 
 -- then the greatest force
 abbrev pub pendulum_checked : Pendulum → Result Pendulum Fault
-pendulum_checked b = and_then (pendulum_ranged b) (λ _. force_checked (sliding_force b 300 10000) b)
+pendulum_checked b = and_then (pendulum_ranged b) (λ _. force_checked Bearing (sliding_force b 300 10000) b)
 
 -- the bearing of these fields, accepted or not
 abbrev pub pendulum_of : ℕ → ℕ → ℕ → Pendulum

@@ -1,11 +1,13 @@
 ghost use Rattle.std.specs.Prelude.{◌≡◌, ◌<◌, ◌≤◌, true, is_ok};
-ghost use Rattle.kinds.specs.Leads.{lead_letter, lead_fields, strength_of, stiffness_of, yield_at, bilinear_force, bilinear_energy, lead_formula, lead_energy_formula, lead_ranged, lead_shaped, lead_checked, lead_made, lead_on_line, lead_force, lead_energy};
+ghost use Rattle.bearing.specs.Curves.{clamped};
+ghost use Rattle.bearing.specs.Refusals.{with_ok};
+ghost use Rattle.kinds.specs.Leads.{lead_letter, lead_fields, strength_of, stiffness_of, yield_of, bilinear_force, bilinear_energy, lead_ranged, lead_shaped, lead_checked, lead_made, lead_on_line, lead_force, lead_energy};
 ghost use Rattle.kinds.specs.LeadsLemmas.{lead_laws};
 ghost use Rattle.std.proofs.Common.{rules};
 
 use bearing::{
-    Bearing, Fault, Layer, Refusal, SheetKind, TOP_FACTOR, TOP_FORCE, TOP_TRAVEL, nearest_factor,
-    nearest_travel, off_sheet, ranged_field,
+    Bearing, Fault, Layer, Refusal, SheetKind, TOP_FACTOR, TOP_FORCE, TOP_TRAVEL, check_force,
+    check_range, nearest_factor, nearest_travel,
 };
 
 // A lead-rubber bearing: diameter of the lead in millimetres, its yield stress in tenths of a megapascal,
@@ -20,6 +22,41 @@ pub struct LeadRubber {
     rubber: u32,
 }
 
+// What a lead-rubber bearing answers by: its characteristic strength in newtons, its post-yield stiffness in newtons
+// per millimetre, and its yield displacement in tenths of a millimetre.
+#[derive(Clone, Copy)]
+struct Bilinear {
+    strength: u64,
+    stiffness: u64,
+    yields: u64,
+    ghost strength_top: { strength ≤ 2300000 },
+    ghost stiffness_top: { stiffness ≤ 200000 },
+    ghost yields_low: { 0 < yields },
+    ghost yields_top: { yields ≤ 25000000 },
+}
+
+impl Bilinear {
+    // Force and energy: a straight line up to the yield displacement, and another from there on. Only what lies beyond
+    // yielding takes up energy. A factor or a displacement outside its range counts as the nearest end.
+    fn respond(&self, s: u16, k: u16, d: u16) -> (u64, u64)
+        ensures { result ≡ (clamped (bilinear_force self.now.strength self.now.stiffness self.now.yields) s k d, clamped (bilinear_energy self.now.strength self.now.yields) s k d) }
+    {
+        let Bilinear {
+            strength,
+            stiffness,
+            yields,
+        } = *self;
+        let d = nearest_travel(d) as u64;
+        let q = strength * nearest_factor(s) as u64 / 100;
+        let kk = stiffness * nearest_factor(k) as u64;
+        if yields <= d {
+            (q + kk * d / 1_000, q * (d - yields))
+        } else {
+            ((q + kk * yields / 1_000) * d / yields, 0)
+        }
+    }
+}
+
 impl LeadRubber {
     pub fn new(
         lead: u32,
@@ -30,6 +67,14 @@ impl LeadRubber {
     ) -> Result<LeadRubber, Fault>
         ensures { result ≡ lead_made lead stress bonded modulus rubber }
     {
+        LeadRubber::from_fields(&[lead, stress, bonded, modulus, rubber]).checked()
+    }
+
+    // The bearing of five fields, accepted or not.
+    fn from_fields(p: &[u32; 5]) -> LeadRubber
+        ensures { result ≡ lead_on_line p.now }
+    {
+        let [lead, stress, bonded, modulus, rubber] = *p;
         LeadRubber {
             lead,
             stress,
@@ -37,18 +82,14 @@ impl LeadRubber {
             modulus,
             rubber,
         }
-        .checked()
     }
 
     // The bearing itself, where its fields are accepted.
     fn checked(&self) -> Result<LeadRubber, Fault>
         ensures { result ≡ lead_checked self.now }
     {
-        self.shape()?;
-        if self.respond(TOP_FACTOR, TOP_FACTOR, TOP_TRAVEL).0 > TOP_FORCE {
-            return Err(off_sheet(Refusal::TooStrong, Layer::Bearing, 0));
-        }
-        Ok(*self)
+        let (greatest, _) = self.bilinear()?.respond(TOP_FACTOR, TOP_FACTOR, TOP_TRAVEL);
+        check_force(greatest, *self, Layer::Bearing)
     }
 
     fn shape(&self) -> Result<(), Fault>
@@ -56,7 +97,7 @@ impl LeadRubber {
     {
         self.ranges()?;
         if 3 * self.lead > self.bonded {
-            return Err(off_sheet(Refusal::LeadTooWide, Layer::Bearing, 0));
+            return Err(Layer::Bearing.refuses(Refusal::LeadTooWide));
         }
         Ok(())
     }
@@ -64,25 +105,28 @@ impl LeadRubber {
     fn ranges(&self) -> Result<(), Fault>
         ensures { result ≡ lead_ranged self.now }
     {
-        ranged_field(self.lead, 10, 400, 1)?;
-        ranged_field(self.stress, 50, 200, 2)?;
-        ranged_field(self.bonded, 100, 1_500, 3)?;
-        ranged_field(self.modulus, 40, 200, 4)?;
-        ranged_field(self.rubber, 20, 1_000, 5)
+        check_range(self.lead, 10, 400, Layer::Bearing, 1)?;
+        check_range(self.stress, 50, 200, Layer::Bearing, 2)?;
+        check_range(self.bonded, 100, 1_500, Layer::Bearing, 3)?;
+        check_range(self.modulus, 40, 200, Layer::Bearing, 4)?;
+        check_range(self.rubber, 20, 1_000, Layer::Bearing, 5)
     }
 
-    // Force and energy by the formulas. The factors don't touch the yield displacement.
-    fn respond(&self, s: u16, k: u16, d: u16) -> (u64, u64)
-        requires shape { is_ok (lead_shaped self.now) ≡ true }
-        requires s { s ≤ 300 }
-        requires k { k ≤ 300 }
-        requires d { d ≤ 10000 }
-        ensures { result ≡ (lead_formula self.now s k d, lead_energy_formula self.now s k d) }
+    // What the bearing answers by, where its fields are in their ranges and the lead is not too wide. Before yielding it
+    // is ten times as stiff as after it; the yield displacement is rounded up. The factors don't touch it.
+    fn bilinear(&self) -> Result<Bilinear, Fault>
+        ensures strength { with_ok result (λ b. b.strength) ≡ with_ok (lead_shaped self.now) (λ _. strength_of self.now) }
+        ensures stiffness { with_ok result (λ b. b.stiffness) ≡ with_ok (lead_shaped self.now) (λ _. stiffness_of self.now) }
+        ensures yields { with_ok result (λ b. b.yields) ≡ with_ok (lead_shaped self.now) (λ _. yield_of self.now) }
     {
+        self.shape()?;
         let strength = self.strength();
         let stiffness = self.stiffness();
-        let yields = yield_displacement(strength, stiffness);
-        bilinear(strength, stiffness, yields, s as u64, k as u64, d as u64)
+        Ok(Bilinear {
+            strength,
+            stiffness,
+            yields: (10 * strength + (9 * stiffness - 1)) / (9 * stiffness),
+        })
     }
 
     // The characteristic strength, in newtons: 0.9 times the yield stress of the lead times its area, π/4 being 355/452.
@@ -111,40 +155,6 @@ impl LeadRubber {
     }
 }
 
-// In tenths of a millimetre, rounded up: before yielding the bearing is ten times as stiff as after it.
-fn yield_displacement(strength: u64, stiffness: u64) -> u64
-    requires strength { strength ≤ 2300000 }
-    requires stiffness { stiffness ≤ 200000 }
-    requires strong { 0 < strength }
-    requires stiff { 0 < stiffness }
-    ensures value { result ≡ yield_at strength stiffness }
-    ensures low { 0 < result }
-    ensures top { result ≤ 25000000 }
-{
-    (10 * strength + (9 * stiffness - 1)) / (9 * stiffness)
-}
-
-// Force and energy of this strength and stiffness: a straight line up to the yield displacement, and another
-// from there on. Only what lies beyond yielding takes up energy.
-fn bilinear(strength: u64, stiffness: u64, yields: u64, s: u64, k: u64, d: u64) -> (u64, u64)
-    requires strength { strength ≤ 2300000 }
-    requires stiffness { stiffness ≤ 200000 }
-    requires yields { 0 < yields }
-    requires yields_top { yields ≤ 25000000 }
-    requires s { s ≤ 300 }
-    requires k { k ≤ 300 }
-    requires d { d ≤ 10000 }
-    ensures { result ≡ (bilinear_force strength stiffness yields s k d, bilinear_energy strength yields s k d) }
-{
-    let q = strength * s / 100;
-    let kk = stiffness * k;
-    if yields <= d {
-        (q + kk * d / 1_000, q * (d - yields))
-    } else {
-        ((q + kk * yields / 1_000) * d / yields, 0)
-    }
-}
-
 impl Bearing for LeadRubber {
     ghost force = { lead_force };
 
@@ -154,25 +164,14 @@ impl Bearing for LeadRubber {
 
     // Strength, stiffness and yield displacement serve the test of the limit and the answer.
     fn answer(&self, s: u16, k: u16, d: u16) -> (u64, u64) {
-        if self.shape().is_err() {
+        let Ok(bilinear) = self.bilinear() else {
             return (0, 0);
-        }
-        let strength = self.strength();
-        let stiffness = self.stiffness();
-        let yields = yield_displacement(strength, stiffness);
-        let (greatest, _) = bilinear(
-            strength,
-            stiffness,
-            yields,
-            TOP_FACTOR as u64,
-            TOP_FACTOR as u64,
-            TOP_TRAVEL as u64,
-        );
+        };
+        let (greatest, _) = bilinear.respond(TOP_FACTOR, TOP_FACTOR, TOP_TRAVEL);
         if greatest > TOP_FORCE {
             return (0, 0);
         }
-        let (s, k, d) = (nearest_factor(s), nearest_factor(k), nearest_travel(d));
-        bilinear(strength, stiffness, yields, s as u64, k as u64, d as u64)
+        bilinear.respond(s, k, d)
     }
 }
 
@@ -181,9 +180,9 @@ impl SheetKind for LeadRubber {
 
     const FIELDS: usize = 5;
 
-    ghost letter = { lead_letter };
+    ghost LETTER = { lead_letter };
 
-    ghost fields = { lead_fields };
+    ghost FIELDS = { lead_fields };
 
     ghost ranged = { λ p. lead_ranged (lead_on_line p) };
 
@@ -191,26 +190,11 @@ impl SheetKind for LeadRubber {
 
     ghost few = { Prim.search rules };
 
-    fn its_letter() -> char {
-        Self::LETTER
-    }
-
-    fn its_fields() -> usize {
-        Self::FIELDS
-    }
-
     fn check_ranges(p: &[u32; 5]) -> Result<(), Fault> {
-        LeadRubber {
-            lead: p[0],
-            stress: p[1],
-            bonded: p[2],
-            modulus: p[3],
-            rubber: p[4],
-        }
-        .ranges()
+        LeadRubber::from_fields(p).ranges()
     }
 
     fn make(p: &[u32; 5]) -> Result<Self, Fault> {
-        LeadRubber::new(p[0], p[1], p[2], p[3], p[4])
+        LeadRubber::from_fields(p).checked()
     }
 }

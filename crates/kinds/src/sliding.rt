@@ -1,11 +1,12 @@
-ghost use Rattle.std.specs.Prelude.{◌≡◌, ◌≤◌, true, is_ok};
+ghost use Rattle.std.specs.Prelude.{◌≡◌, true, is_ok};
+ghost use Rattle.bearing.specs.Ranges.{factor, travel};
 ghost use Rattle.kinds.specs.Pendulums.{pendulum_letter, pendulum_fields, sliding_force, sliding_energy, pendulum_ranged, pendulum_made, pendulum_on_line, pendulum_checked, pendulum_force, pendulum_energy};
 ghost use Rattle.kinds.specs.PendulumsLemmas.{pendulum_laws};
 ghost use Rattle.std.proofs.Common.{rules};
 
 use bearing::{
-    Bearing, Fault, Layer, Refusal, SheetKind, TOP_FACTOR, TOP_FORCE, TOP_TRAVEL, nearest_factor,
-    nearest_travel, off_sheet, ranged_field,
+    Bearing, Fault, Layer, SheetKind, TOP_FACTOR, TOP_TRAVEL, check_force, check_range,
+    nearest_factor, nearest_travel,
 };
 
 // A pendulum bearing: load in kilonewtons, friction in thousandths, radius in millimetres.
@@ -20,12 +21,19 @@ impl Pendulum {
     pub fn new(load: u32, friction: u32, radius: u32) -> Result<Pendulum, Fault>
         ensures { result ≡ pendulum_made load friction radius }
     {
+        Pendulum::from_fields(&[load, friction, radius, 0, 0]).checked()
+    }
+
+    // The bearing of the first three of five fields, accepted or not.
+    fn from_fields(p: &[u32; 5]) -> Pendulum
+        ensures { result ≡ pendulum_on_line p.now }
+    {
+        let [load, friction, radius, _, _] = *p;
         Pendulum {
             load,
             friction,
             radius,
         }
-        .checked()
     }
 
     // The bearing itself, where its fields are accepted.
@@ -33,33 +41,30 @@ impl Pendulum {
         ensures { result ≡ pendulum_checked self.now }
     {
         self.ranges()?;
-        if self.slide(TOP_FACTOR, TOP_TRAVEL).0 > TOP_FORCE {
-            return Err(off_sheet(Refusal::TooStrong, Layer::Bearing, 0));
-        }
-        Ok(*self)
+        let (greatest, _) = self.slide(TOP_FACTOR, TOP_TRAVEL);
+        check_force(greatest, *self, Layer::Bearing)
     }
 
     fn ranges(&self) -> Result<(), Fault>
         ensures { result ≡ pendulum_ranged self.now }
     {
-        ranged_field(self.load, 10, 20_000, 1)?;
-        ranged_field(self.friction, 10, 200, 2)?;
-        ranged_field(self.radius, 200, 20_000, 3)
+        check_range(self.load, 10, 20_000, Layer::Bearing, 1)?;
+        check_range(self.friction, 10, 200, Layer::Bearing, 2)?;
+        check_range(self.radius, 200, 20_000, Layer::Bearing, 3)
     }
 
-    // Force and energy by the formulas. Friction acts only once the deck has moved.
+    // Force and energy by the formulas. Friction acts only once the deck has moved. A factor or a displacement outside
+    // its range counts as the nearest end.
     fn slide(&self, s: u16, d: u16) -> (u64, u64)
-        requires fields { is_ok (pendulum_ranged self.now) ≡ true }
-        requires factor { s ≤ 300 }
-        requires travel { d ≤ 10000 }
-        ensures { result ≡ (sliding_force self.now s d, sliding_energy self.now s d) }
+        requires { is_ok (pendulum_ranged self.now) ≡ true }
+        ensures { result ≡ (sliding_force self.now (factor s) (travel d), sliding_energy self.now (factor s) (travel d)) }
     {
         if d == 0 {
             return (0, 0);
         }
-        let d = d as u64;
+        let d = nearest_travel(d) as u64;
         let load = self.load as u64;
-        let slip = load * self.friction as u64 * s as u64 / 100;
+        let slip = load * self.friction as u64 * nearest_factor(s) as u64 / 100;
         (slip + 100 * load * d / self.radius as u64, slip * d)
     }
 }
@@ -73,10 +78,10 @@ impl Bearing for Pendulum {
 
     // The stiffness factor has no effect: load and radius alone give the stiffness.
     fn answer(&self, s: u16, _k: u16, d: u16) -> (u64, u64) {
-        if self.ranges().is_err() || self.slide(TOP_FACTOR, TOP_TRAVEL).0 > TOP_FORCE {
+        if self.checked().is_err() {
             return (0, 0);
         }
-        self.slide(nearest_factor(s), nearest_travel(d))
+        self.slide(s, d)
     }
 }
 
@@ -85,9 +90,9 @@ impl SheetKind for Pendulum {
 
     const FIELDS: usize = 3;
 
-    ghost letter = { pendulum_letter };
+    ghost LETTER = { pendulum_letter };
 
-    ghost fields = { pendulum_fields };
+    ghost FIELDS = { pendulum_fields };
 
     ghost ranged = { λ p. pendulum_ranged (pendulum_on_line p) };
 
@@ -95,24 +100,11 @@ impl SheetKind for Pendulum {
 
     ghost few = { Prim.search rules };
 
-    fn its_letter() -> char {
-        Self::LETTER
-    }
-
-    fn its_fields() -> usize {
-        Self::FIELDS
-    }
-
     fn check_ranges(p: &[u32; 5]) -> Result<(), Fault> {
-        Pendulum {
-            load: p[0],
-            friction: p[1],
-            radius: p[2],
-        }
-        .ranges()
+        Pendulum::from_fields(p).ranges()
     }
 
     fn make(p: &[u32; 5]) -> Result<Self, Fault> {
-        Pendulum::new(p[0], p[1], p[2])
+        Pendulum::from_fields(p).checked()
     }
 }

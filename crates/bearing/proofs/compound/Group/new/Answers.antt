@@ -7,6 +7,3 @@ overflow_mul-count g c =
     let few = count_passed c.args.count (ap is_ok (sym c.check_count.ensures ∙ c.in_ok-check_count.was)) in
     simp c.answer-greatest.ensures
     (omega (arith, force_counts (g.met.B.Bearing.laws c.args.member) c.args.count 300 300 10000 (omega (arith, few.1))))
-
-pub overflow_cast-result : goal.overflow_cast-result
-overflow_cast-result g c = omega (arith, (count_passed c.args.count (ap is_ok (sym c.check_count.ensures ∙ c.in_ok-check_count.was))).1)

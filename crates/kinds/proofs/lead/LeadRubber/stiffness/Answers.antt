@@ -1,10 +1,7 @@
-use Rattle.std.proofs.Common.{refl, arith}
+use Rattle.std.proofs.Common.{refl}
 use Rattle.kinds.specs.Leads.{stiffness_of}
-use Rattle.kinds.specs.LeadsLemmas.{shaped_says, ring_low, stiffness_pos, stiffness_top}
+use Rattle.kinds.specs.LeadsLemmas.{shaped_says, stiffness_pos, stiffness_top}
 use Rattle.kinds.proofs.lead.LeadRubber.stiffness.Goals as goal
-
-pub overflow_sub-result : goal.overflow_sub-result
-overflow_sub-result c = omega (arith, ring_low c.args.self.now (shaped_says c.args.self.now c.requires))
 
 pub returns : goal.returns
 unfolding stiffness_of

@@ -1,10 +1,11 @@
-use Rattle.std.proofs.Common.{arith}
+use Rattle.std.proofs.Common.{◌*◌, div-le_self, arith}
 use Rattle.std.proofs.lemmas.Nat.{mul-le}
-use Rattle.kinds.specs.Pendulums.{slip_of}
 use Rattle.kinds.specs.PendulumsLemmas.{ranged_says, slip_below}
 use Rattle.kinds.proofs.sliding.Pendulum.slide.Goals as goal
 
-pub overflow_mul-result-3 : goal.overflow_mul-result-3
-overflow_mul-result-3 c =
+pub overflow_add-result : goal.overflow_add-result
+overflow_add-result c =
     let b = c.args.self.now in
-    omega (arith, mul-le (slip_of b c.args.s) c.args.d 12000000 10000 (slip_below b c.args.s (ranged_says b c.requires.fields) c.requires.factor) c.requires.travel)
+    let h = ranged_says b c.requires in
+    let d = c.nearest_travel-d.result in
+    omega (arith, slip_below b c.nearest_factor.result h (omega arith), div-le_self (100 * b.load * d) b.radius, mul-le (100 * b.load) d 2000000 10000 (omega (arith, h.load_top)) (omega arith))
