@@ -1,7 +1,6 @@
 pub mod Rule
 pub mod Table
 pub mod Eurocode
-pub mod Either
 pub mod Reduction
 pub mod Growth
 pub mod Lines

@@ -2,13 +2,12 @@
 
 #![tactic(auto)]
 
-mod either;
+mod compound;
 mod eurocode;
 mod fractions;
 mod rule;
 mod table;
 
-pub use either::EitherRule;
 pub use eurocode::EurocodeRule;
 pub use rule::DampingRule;
 pub use table::TableRule;

@@ -1,18 +1,18 @@
 -- What a list over lent places means: its elements. Assumes nothing.
-use Rattle.std.specs.Prelude.{ℕ, ◌-◌, min, Bool, cond, List, [], ◌∷◌, ◌++◌, length, take, Ok, Err, Result, nat_lt}
+use Rattle.std.specs.Prelude.{ℕ, ◌-◌, Bool, cond, List, [], ◌∷◌, ◌++◌, length, take, Ok, Err, Result, nat_lt}
 use Rattle.bearing.specs.declared.fault.Fault.{Fault}
 use Rattle.bearing.specs.declared.fault.Refusal.TheVariants.{NoPlace, NothingHung}
 use Rattle.bearing.specs.declared.fault.Layer.TheVariants.{Bridge}
 use Rattle.bearing.specs.Refusals.{plain_fault}
-use Rattle.listing.specs.declared.places.Listing.{Listing}
 
--- the elements: the first `count` places, at most MAX
-abbrev pub items : {T : Type 0} {MAX : ℕ} → Listing T MAX → List T
-items {MAX = m} l = take (min l.count m) l.places.now
+-- a list over lent places: its elements, and how many it can hold
+pub record Listed (T : Type 0) : Type 0 where
+  pub items : List T
+  pub capacity : ℕ
 
--- how many it can hold: as many as there are places, at most MAX
-abbrev pub capacity : {T : Type 0} {MAX : ℕ} → Listing T MAX → ℕ
-capacity {MAX = m} l = min m (length l.places.now)
+-- the same places with these elements
+abbrev pub with_items : {T : Type 0} → Listed T → List T → Listed T
+with_items l xs = record { items = xs; capacity = l.capacity }
 
 -- a place is free
 abbrev pub free : {T : Type 0} → ℕ → List T → Bool

@@ -1,9 +1,8 @@
-ghost use Rattle.std.specs.Prelude.{◌≡◌, [], length};
-ghost use Rattle.bearing.specs.Refusals.{plain_fault};
-ghost use Rattle.bearing.specs.declared.fault.Layer.TheVariants.{Bridge as bridgeLayer};
-ghost use Rattle.listing.specs.Lists.{items, capacity, pushed, push_answer, popped, pop_answer};
+ghost use Rattle.std.specs.Prelude.{◌≡◌, ◌≤◌, [], length, min, take};
+ghost use Rattle.listing.specs.Lists.{Listed, with_items, pushed, push_answer, popped, pop_answer};
 
 use bearing::{Fault, Layer, Refusal};
+use std::marker::Model;
 
 // A list over places that the caller lends: at most MAX elements, and no more than there are places.
 #[derive(Drop)]
@@ -12,73 +11,67 @@ pub struct Listing<'a, T: Copy, const MAX: usize> {
     count: usize,
 }
 
-// A list's own refusals: no place is free, or nothing is there to take off.
-fn list_fault(refusal: Refusal) -> Fault
-    ensures { result ≡ plain_fault refusal bridgeLayer }
-{
-    Fault {
-        refusal,
-        layer: Layer::Bridge,
-        line: 0,
-        field: 0,
-    }
+impl<'a, T: Copy, const MAX: usize> Model for Listing<'a, T, MAX> {
+    ghost Value = { Listed T };
+
+    ghost view = { λ l. record { items = take l.count l.places.now; capacity = min MAX (length l.places.now) } };
+
+    ghost invariant = { λ l. (l.count ≤ MAX) × (l.count ≤ length l.places.now) };
 }
 
 impl<'a, T: Copy, const MAX: usize> Listing<'a, T, MAX> {
     // An empty list.
     pub fn new(places: &'a mut [T]) -> Self
-        ensures { result ≡ record { places = places.entry; count = 0 } }
+        ensures { result ≡ record { items = []; capacity = min MAX (length places.old) } }
     {
         Listing { places, count: 0 }
     }
 
     pub fn len(&self) -> usize
-        ensures { result ≡ length (items self.now) }
+        ensures value { result ≡ length self.now.items }
+        ensures few { result ≤ MAX }
     {
-        self.count.min(MAX).min(self.places.len())
+        self.as_slice().len()
     }
 
     // One element more at the end.
     pub fn push(&mut self, x: T) -> Result<(), Fault>
-        ensures answer { result ≡ push_answer (capacity self.old) (items self.old) }
-        ensures list { items self.new ≡ pushed (capacity self.old) (items self.old) x }
-        ensures places { capacity self.new ≡ capacity self.old }
+        ensures answer { result ≡ push_answer self.old.capacity self.old.items }
+        ensures list { self.new ≡ with_items self.old (pushed self.old.capacity self.old.items x) }
     {
-        let n = self.len();
-        if n >= MAX || n >= self.places.len() {
-            return Err(list_fault(Refusal::NoPlace));
+        if self.count >= MAX || self.count >= self.places.len() {
+            return Err(Layer::Bridge.refuses(Refusal::NoPlace));
         }
-        self.places[n] = x;
-        self.count = n + 1;
+        self.places[self.count] = x;
+        self.count += 1;
         Ok(())
     }
 
     // The last element goes, and its place serves again.
     pub fn take_off(&mut self) -> Result<(), Fault>
-        ensures answer { result ≡ pop_answer (items self.old) }
-        ensures list { items self.new ≡ popped (items self.old) }
-        ensures places { capacity self.new ≡ capacity self.old }
+        ensures answer { result ≡ pop_answer self.old.items }
+        ensures list { self.new ≡ with_items self.old (popped self.old.items) }
     {
-        let n = self.len();
-        if n == 0 {
-            return Err(list_fault(Refusal::NothingHung));
+        if self.count == 0 {
+            return Err(Layer::Bridge.refuses(Refusal::NothingHung));
         }
-        self.count = n - 1;
+        self.count -= 1;
         Ok(())
     }
 
     // No element is left, and every place is free.
     pub fn clear(&mut self)
-        ensures list { items self.new ≡ [] }
-        ensures places { capacity self.new ≡ capacity self.old }
+        ensures list { self.new ≡ with_items self.old [] }
+        ensures few { self.old.capacity ≤ MAX }
     {
         self.count = 0;
     }
 
     pub fn as_slice(&self) -> &[T]
-        ensures { result.now ≡ items self.now }
+        ensures items { result.now ≡ self.now.items }
+        ensures placed { length result.now ≤ self.now.capacity }
+        ensures few { self.now.capacity ≤ MAX }
     {
-        let n = self.len();
-        &self.places[0..n]
+        &self.places[..self.count]
     }
 }

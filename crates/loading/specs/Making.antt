@@ -5,6 +5,7 @@ use Rattle.bearing.specs.declared.fault.Refusal.TheVariants.{BoundsReversed}
 use Rattle.bearing.specs.declared.fault.Layer.TheVariants.{Bridge}
 use Rattle.bearing.specs.Ranges.{between}
 use Rattle.bearing.specs.Refusals.{out_of_range, plain_fault, and_then}
+use Rattle.bearing.specs.Fields.{range_checked}
 use Rattle.loading.specs.declared.loads.CaseNumbers.{CaseNumbers}
 use Rattle.loading.specs.Sites.{site_tenths}
 
@@ -14,7 +15,7 @@ weight_made kn = cond (between 1 1000000 kn) (Ok kn) (Err (out_of_range Bridge 1
 
 -- a number of a load case, in its range or refused with its field
 abbrev pub case_field : ℕ → ℕ → ℕ → ℕ → Result (Unit {0}) Fault
-case_field x low high field = cond (between low high x) (Ok tt) (Err (out_of_range Bridge field))
+case_field x low high field = range_checked Bridge x low high field
 
 -- the bounds in their order
 abbrev pub bounds_ordered : {R : Type 0} → CaseNumbers R → Result (CaseNumbers R) Fault

@@ -1,10 +1,10 @@
 ghost use Rattle.std.specs.Prelude.{◌≡◌, ◌≤◌};
 ghost use Rattle.bearing.specs.Refusals.{with_ok};
-ghost use Rattle.loading.specs.Making.{case_field, case_made, demand};
+ghost use Rattle.loading.specs.Making.{case_made, demand};
 
 use crate::loads::CaseNumbers;
 use crate::weighing::Weight;
-use bearing::{Fault, Layer, Refusal};
+use bearing::{Fault, Layer, Refusal, check_range};
 
 // A load case whose numbers are in their ranges, the bounds of each factor in order: no value of this type is otherwise.
 #[derive(Drop)]
@@ -20,44 +20,37 @@ pub struct Case<R> {
     ghost kordered: { numbers.klo ≤ numbers.khi },
 }
 
-// Refuses a number outside its range.
-fn ranged(x: u32, low: u32, high: u32, field: u8) -> Result<(), Fault>
-    ensures { result ≡ case_field x low high field }
-{
-    if low <= x && x <= high {
-        Ok(())
-    } else {
-        Err(Fault {
-            refusal: Refusal::OutOfRange,
-            layer: Layer::Bridge,
-            line: 0,
-            field,
-        })
-    }
-}
-
 impl<R: Copy> Case<R> {
     pub fn new(numbers: CaseNumbers<R>) -> Result<Case<R>, Fault>
         ensures { with_ok result (λ c. c.numbers) ≡ case_made numbers }
     {
-        ranged(numbers.accel, 1, 100, 1)?;
-        ranged(numbers.slo, 50, 300, 3)?;
-        ranged(numbers.shi, 50, 300, 4)?;
-        ranged(numbers.klo, 50, 300, 5)?;
-        ranged(numbers.khi, 50, 300, 6)?;
+        check_range(numbers.accel, 1, 100, Layer::Bridge, 1)?;
+        check_range(numbers.slo, 50, 300, Layer::Bridge, 3)?;
+        check_range(numbers.shi, 50, 300, Layer::Bridge, 4)?;
+        check_range(numbers.klo, 50, 300, Layer::Bridge, 5)?;
+        check_range(numbers.khi, 50, 300, Layer::Bridge, 6)?;
         if numbers.slo > numbers.shi || numbers.klo > numbers.khi {
-            return Err(Fault {
-                refusal: Refusal::BoundsReversed,
-                layer: Layer::Bridge,
-                line: 0,
-                field: 0,
-            });
+            return Err(Layer::Bridge.refuses(Refusal::BoundsReversed));
         }
         Ok(Case { numbers })
     }
 }
 
 impl<R> Case<R> {
+    // The lowest strength and stiffness factor that the case allows, in percent.
+    pub fn lowest(&self) -> (u16, u16)
+        ensures { result ≡ (self.now.numbers.slo, self.now.numbers.klo) }
+    {
+        (self.numbers.slo as u16, self.numbers.klo as u16)
+    }
+
+    // The highest ones.
+    pub fn highest(&self) -> (u16, u16)
+        ensures { result ≡ (self.now.numbers.shi, self.now.numbers.khi) }
+    {
+        (self.numbers.shi as u16, self.numbers.khi as u16)
+    }
+
     // The demand of a deck of this weight, in newtons times tenths of a millimetre; it is in the range of a rule.
     pub fn demand(&self, weight: Weight) -> u64
         ensures low { 1 ≤ result }

@@ -2,7 +2,7 @@ ghost use Rattle.std.specs.Prelude.{◌≡◌, ◌≤◌};
 ghost use Rattle.bearing.specs.Refusals.{with_ok};
 ghost use Rattle.loading.specs.Making.{weight_made};
 
-use bearing::{Fault, Layer, Refusal};
+use bearing::{Fault, Layer, check_range};
 
 // A deck's weight in kilonewtons, 1 to 1,000,000.
 #[derive(Clone, Copy)]
@@ -16,14 +16,7 @@ impl Weight {
     pub fn new(kn: u32) -> Result<Weight, Fault>
         ensures { with_ok result (λ w. w.kn) ≡ weight_made kn }
     {
-        if kn < 1 || kn > 1_000_000 {
-            return Err(Fault {
-                refusal: Refusal::OutOfRange,
-                layer: Layer::Bridge,
-                line: 0,
-                field: 1,
-            });
-        }
+        check_range(kn, 1, 1_000_000, Layer::Bridge, 1)?;
         Ok(Weight { kn })
     }
 
