@@ -1,5 +1,5 @@
 -- One call more, one place more written. Assumes nothing.
-use Rattle.std.proofs.Common.{◌≡◌, ℕ, ◌+◌, ◌<◌, Bool, List, [], ◌∷◌, ◌++◌, map, length, get_or, take, set, Result, sym, refl, ap, ◌∙◌, subst, add-one, arith, take-suc-set}
+use Rattle.std.proofs.Common.{◌≡◌, ℕ, ◌+◌, ◌<◌, Bool, List, [], ◌∷◌, ◌++◌, map, length, get_or, take, set, Result, sym, refl, ap, ◌∙◌, subst, add-one, take-suc-set}
 use Rattle.std.proofs.lemmas.List.{take_more}
 use Rattle.bearing.specs.declared.fault.Fault.{Fault}
 use Rattle.bridge.specs.declared.calls.DraftCall.{DraftCall}
@@ -58,9 +58,3 @@ module _ {B R : Type 0} (force energy : B → Curve) (says : R → ℕ → ℕ �
         bridge = values ∙ ap (λ w. map (asked force energy says rows w) questions) heavy ∙ ap (λ (rs : List B). map (asked force energy says rs W) questions) hung;
         law = subst₂ (λ (rs : List B) (w : ℕ). Each (Law force energy says rs w) questions responses) hung heavy law;
       }
-
-  -- a run that stops before closing
-  pub run_stopped : (W : ℕ) (replies : List (Result (Unit {0}) Fault)) (responses : List Response) → length responses ≡ 0 → replies ≡ call_replies places [] calls →
-      Run force energy says places W calls [] replies responses
-  run_stopped W replies [] none drafted = record { draft = drafted; bridge = refl; law = tt }
-  run_stopped W replies (r ∷ rs) none drafted = absurd (omega arith)

@@ -46,13 +46,11 @@ module _ {B : Type 0} {force energy : B → Curve} (laws : (b : B) → Laws (for
         mul-add d (force b (φ 0).s (φ 0).k d) (total force bs (λ j. φ (suc j)) d),
       )
 
-  pub product_top : (rows : List B) (φ : Choice) (d : ℕ) → length rows ≤ 64 → d ≤ 10000 → d * total force rows φ d ≤ 64000000000000
-  product_top rows φ d few near =
-      let limit : total force rows φ d ≤ 6400000000 = omega (arith, total_limit rows φ d) in
-      let most : d * total force rows φ d ≤ 10000 * 6400000000 = mul-le-mul near limit in
-      most
+  pub product_top : (rows : List B) (φ : Choice) (d most : ℕ) → length rows ≤ 64 → d ≤ most → d * total force rows φ d ≤ most * 6400000000
+  product_top rows φ d most few near = mul-le-mul near (omega (arith, total_limit rows φ d))
 
-  pub energy_limit : (b : B) (s k d : ℕ) → d ≤ 10000 → energy b s k d ≤ 1000000000000
+  -- at any displacement of 16 bits
+  pub energy_limit : (b : B) (s k d : ℕ) → d ≤ 65535 → energy b s k d ≤ 6553500000000
   energy_limit b s k d near = le_trans ((laws b).energy_bound s k d) (mul-le-mul near ((laws b).force_limit s k d))
 
   module _ {says : ℕ → ℕ → ℕ → Bool} (keeps : RuleLaws says) where
@@ -63,8 +61,8 @@ module _ {B : Type 0} {force energy : B → Curve} (laws : (b : B) → Laws (for
     met_grows rows φ ψ R d e few low high below up near yes_at =
         let more : d * total force rows φ d ≤ e * total force rows ψ e = mul-le-mul up (total_grows force (λ b. (laws b).force_grows) rows φ ψ d e below up) in
         keeps.stays (total energy rows φ d) (d * total force rows φ d) R (total energy rows ψ e) (e * total force rows ψ e) R
-        (inside_from _ _ R (total_within rows φ d) (product_top rows φ d few (le_trans up near)) low high)
-        (inside_from _ _ R (total_within rows ψ e) (product_top rows ψ e few near) low high)
+        (inside_from _ _ R (total_within rows φ d) (product_top rows φ d 10000 few (le_trans up near)) low high)
+        (inside_from _ _ R (total_within rows ψ e) (product_top rows ψ e 10000 few near) low high)
         (total_grows energy (λ b. (laws b).energy_grows) rows φ ψ d e below up) more (le_refl R) yes_at
 
     -- with the same factors for every row: once met, met at every larger displacement

@@ -1,5 +1,5 @@
-ghost use Rattle.std.specs.Prelude.{◌≡◌, min, [], length};
-ghost use Rattle.listing.specs.Lists.{items, capacity, pushed, push_answer, popped, pop_answer};
+ghost use Rattle.std.specs.Prelude.{◌≡◌, ◌≤◌, min, [], length};
+ghost use Rattle.listing.specs.Lists.{with_items, pushed, push_answer, popped, pop_answer};
 
 use bearing::Fault;
 use listing::Listing;
@@ -24,8 +24,7 @@ impl<'a, B: Copy> Draft<'a, B> {
     // A draft without rows.
     pub fn begin(weight: Weight, places: &'a mut [B]) -> Self
         ensures weight { result.weight ≡ weight }
-        ensures none { items result.rows ≡ [] }
-        ensures places { capacity result.rows ≡ min 64 (length places.old) }
+        ensures rows { result.rows ≡ record { items = []; capacity = min 64 (length places.old) } }
     {
         Draft {
             weight,
@@ -35,9 +34,8 @@ impl<'a, B: Copy> Draft<'a, B> {
 
     // Hangs a row at the end.
     pub fn hang(&mut self, row: B) -> Result<(), Fault>
-        ensures answer { result ≡ push_answer (capacity self.old.rows) (items self.old.rows) }
-        ensures list { items self.new.rows ≡ pushed (capacity self.old.rows) (items self.old.rows) row }
-        ensures places { capacity self.new.rows ≡ capacity self.old.rows }
+        ensures answer { result ≡ push_answer self.old.rows.capacity self.old.rows.items }
+        ensures rows { self.new.rows ≡ with_items self.old.rows (pushed self.old.rows.capacity self.old.rows.items row) }
         ensures weight { self.new.weight ≡ self.old.weight }
     {
         self.rows.push(row)
@@ -45,9 +43,8 @@ impl<'a, B: Copy> Draft<'a, B> {
 
     // Takes the last row off; its place serves again.
     pub fn take_off(&mut self) -> Result<(), Fault>
-        ensures answer { result ≡ pop_answer (items self.old.rows) }
-        ensures list { items self.new.rows ≡ popped (items self.old.rows) }
-        ensures places { capacity self.new.rows ≡ capacity self.old.rows }
+        ensures answer { result ≡ pop_answer self.old.rows.items }
+        ensures rows { self.new.rows ≡ with_items self.old.rows (popped self.old.rows.items) }
         ensures weight { self.new.weight ≡ self.old.weight }
     {
         self.rows.take_off()
@@ -64,6 +61,13 @@ impl<'a, B: Copy> Draft<'a, B> {
 }
 
 impl<'a, B: Copy> Bridge<'a, B> {
+    // How many rows hang.
+    pub fn row_count(&self) -> usize
+        ensures { result ≡ length self.now.rows.items }
+    {
+        self.rows.len()
+    }
+
     pub(crate) fn weight(&self) -> Weight
         ensures { result ≡ self.now.weight }
     {
@@ -71,7 +75,8 @@ impl<'a, B: Copy> Bridge<'a, B> {
     }
 
     pub(crate) fn rows(&self) -> &[B]
-        ensures { result.now ≡ items self.now.rows }
+        ensures items { result.now ≡ self.now.rows.items }
+        ensures few { length result.now ≤ 64 }
     {
         self.rows.as_slice()
     }

@@ -1,5 +1,5 @@
-ghost use Rattle.std.specs.Prelude.{◌≡◌, min, true, false, ◌&&◌, [], map, length, ◌==◌};
-ghost use Rattle.listing.specs.Lists.{items, capacity};
+ghost use Rattle.std.specs.Prelude.{◌≡◌, min, true, false, ◌&&◌, map, length, ◌==◌};
+ghost use Rattle.listing.specs.Lists.{with_items};
 ghost use Rattle.bridge.specs.Calls.{called, call_reply, hung_rows, call_replies};
 ghost use Rattle.bridge.specs.Replay.{response_values, asked, Law, Each, Run, questions_of};
 
@@ -11,9 +11,8 @@ use loading::Weight;
 
 impl<'a, B: Copy> Draft<'a, B> {
     fn enter(&mut self, call: &DraftCall<B>) -> Result<(), Fault>
-        ensures answer { result ≡ call_reply (capacity self.old.rows) (items self.old.rows) call.now }
-        ensures list { items self.new.rows ≡ called (capacity self.old.rows) (items self.old.rows) call.now }
-        ensures places { capacity self.new.rows ≡ capacity self.old.rows }
+        ensures answer { result ≡ call_reply self.old.rows.capacity self.old.rows.items call.now }
+        ensures rows { self.new.rows ≡ with_items self.old.rows (called self.old.rows.capacity self.old.rows.items call.now) }
         ensures weight { self.new.weight ≡ self.old.weight }
     {
         match call {
@@ -25,8 +24,8 @@ impl<'a, B: Copy> Draft<'a, B> {
 
 impl<'a, B: Bearing + Copy> Bridge<'a, B> {
     fn put<R: DampingRule>(&self, question: &Question<R>) -> Response
-        ensures values { response_values result ≡ asked B.force B.energy R.says (items self.now.rows) self.now.weight.kn question.now }
-        ensures law { Law B.force B.energy R.says (items self.now.rows) self.now.weight.kn question.now result }
+        ensures values { response_values result ≡ asked B.force B.energy R.says self.now.rows.items self.now.weight.kn question.now }
+        ensures law { Law B.force B.energy R.says self.now.rows.items self.now.weight.kn question.now result }
     {
         match question {
             Question::Query(case) => Response::Query(self.query(case)),
@@ -42,12 +41,12 @@ fn enter_all<B: Copy>(
     replies: &mut [Result<(), Fault>],
 )
     requires { length replies.old ≡ length calls.now }
-    ensures list { items draft.new.rows ≡ hung_rows (capacity draft.old.rows) (items draft.old.rows) calls.now }
+    ensures rows { draft.new.rows ≡ with_items draft.old.rows (hung_rows draft.old.rows.capacity draft.old.rows.items calls.now) }
     ensures weight { draft.new.weight ≡ draft.old.weight }
-    ensures answers { replies.new ≡ call_replies (capacity draft.old.rows) (items draft.old.rows) calls.now }
+    ensures answers { replies.new ≡ call_replies draft.old.rows.capacity draft.old.rows.items calls.now }
 {
-    for i in 0..calls.len() {
-        replies[i] = draft.enter(&calls[i]);
+    for (i, call) in calls.iter().enumerate() {
+        replies[i] = draft.enter(call);
     }
 }
 
@@ -58,21 +57,18 @@ fn put_all<B: Bearing + Copy, R: DampingRule>(
     responses: &mut [Response],
 )
     requires { length responses.old ≡ length questions.now }
-    ensures values { map response_values responses.new ≡ map (asked B.force B.energy R.says (items bridge.now.rows) bridge.now.weight.kn) questions.now }
-    ensures law { Each (Law B.force B.energy R.says (items bridge.now.rows) bridge.now.weight.kn) questions.now responses.new }
+    ensures values { map response_values responses.new ≡ map (asked B.force B.energy R.says bridge.now.rows.items bridge.now.weight.kn) questions.now }
+    ensures law { Each (Law B.force B.energy R.says bridge.now.rows.items bridge.now.weight.kn) questions.now responses.new }
 {
-    for i in 0..questions.len() {
-        responses[i] = bridge.put(&questions[i]);
+    for (i, question) in questions.iter().enumerate() {
+        responses[i] = bridge.put(question);
     }
 }
 
 fn how_many<R>(questions: Option<&[Question<R>]>) -> usize
     ensures { result ≡ length (questions_of questions.entry) }
 {
-    match questions {
-        Some(all) => all.len(),
-        None => 0,
-    }
+    questions.map_or(0, |all| all.len())
 }
 
 // Begins a draft with a weight on the places, makes the calls on it, closes it if questions follow (none: the run stops

@@ -1,13 +1,12 @@
-use Rattle.std.proofs.Common.{map, take, sym, ap, ◌∙◌, arith, take_all}
-use Rattle.listing.specs.Lists.{items}
+use Rattle.std.proofs.Common.{take, sym, arith}
 use Rattle.bridge.specs.Replay.{response_values, asked, Law, Each}
 use Rattle.bridge.proofs.Entering.{put_next, one_taken, each_append, map_append, subst₂}
 use Rattle.bridge.proofs.running.put_all.Goals as goal
 
 pub loop-i-preserved : goal.loop-i-preserved
 loop-i-preserved g c =
-    let f = asked g.B.Bearing.force g.B.Bearing.energy g.R.DampingRule.says (items c.args.bridge.now.rows) c.args.bridge.now.weight.kn in
-    let L = Law g.B.Bearing.force g.B.Bearing.energy g.R.DampingRule.says (items c.args.bridge.now.rows) c.args.bridge.now.weight.kn in
+    let f = asked g.B.Bearing.force g.B.Bearing.energy g.R.DampingRule.says c.args.bridge.now.rows.items c.args.bridge.now.weight.kn in
+    let L = Law g.B.Bearing.force g.B.Bearing.energy g.R.DampingRule.says c.args.bridge.now.rows.items c.args.bridge.now.weight.kn in
     let rs = take c.loop-i.i c.loop-i.responses in
     let qs = take c.loop-i.i c.args.questions.now in
     let q = c.index-questions-i.result in
@@ -21,14 +20,3 @@ loop-i-preserved g c =
       cc,
       subst₂ (Each L) (sym nq) (sym nr) (each_append L qs rs q r c.loop-i.invariant.1 c.put.ensures.law),
     )
-
-pub returns : goal.returns
-returns g c =
-    let f = asked g.B.Bearing.force g.B.Bearing.energy g.R.DampingRule.says (items c.args.bridge.now.rows) c.args.bridge.now.weight.kn in
-    let L = Law g.B.Bearing.force g.B.Bearing.energy g.R.DampingRule.says (items c.args.bridge.now.rows) c.args.bridge.now.weight.kn in
-    let rs = take_all c.loop-i.i c.loop-i.responses (omega arith) in
-    let qs = take_all c.loop-i.i c.args.questions.now c.loop-i-test.false in
-    record {
-      values = sym (ap (map response_values) rs) ∙ c.loop-i.invariant.0 ∙ ap (map f) qs;
-      law = subst₂ (Each L) qs rs c.loop-i.invariant.1;
-    }
