@@ -11,8 +11,7 @@ use Rattle.bearing.specs.Ranges.{between}
 use Rattle.bearing.specs.Refusals.{on_line, plain_fault, with_ok}
 use Rattle.listing.specs.Lists.{free}
 use Rattle.loading.specs.Making.{weight_made}
-use Rattle.sheet.specs.declared.machine.Stage.{Stage}
-use Rattle.sheet.specs.declared.machine.Stage.TheVariants.{WeightNames, WeightValue, RowNames, Rows, Cases}
+use Rattle.sheet.specs.Machine.{Stage, WeightNames, WeightValue, RowNames, Rows, Cases}
 use Rattle.sheet.specs.Parts.{parts, begins, is_text}
 use Rattle.sheet.specs.Numbers.{parsed}
 use Rattle.sheet.specs.RowLines.{form_fault, names_fault, Row, row_line}

@@ -6,7 +6,7 @@ use Rattle.std.proofs.lemmas.Bool.{eqb-true, and_parts}
 use Rattle.bearing.specs.declared.fault.Layer.TheVariants.{Bridge, Sheet}
 use Rattle.bearing.specs.Ranges.{between}
 use Rattle.bearing.specs.Refusals.{at_field, out_of_range}
-use Rattle.damping.specs.declared.either.EitherRule.TheVariants.{First, Second}
+use Rattle.either.specs.declared.Either.TheVariants.{Left, Right}
 use Rattle.loading.specs.declared.loads.Site.{Site}
 use Rattle.loading.specs.declared.loads.Site.TheVariants.{I, II, III, IV}
 use Rattle.loading.specs.Making.{case_field, case_made}
@@ -53,8 +53,8 @@ site_back f s e = one (is_text (codes "I") f) (is_text (codes "II") f) (is_text 
 
 -- a rule and its letter
 rule_read : (r : SheetRule) → rule_named (rule_name r) ≡ Some r
-rule_read (First t) = refl
-rule_read (Second e) = refl
+rule_read (Left t) = refl
+rule_read (Right e) = refl
 
 rule_back : (f : List ℕ) (r : SheetRule) → rule_named f ≡ Some r → f ≡ rule_name r
 rule_back f r e = one (is_text (codes "T") f) (is_text (codes "E") f) refl refl e
@@ -62,9 +62,9 @@ rule_back f r e = one (is_text (codes "T") f) (is_text (codes "E") f) refl refl 
     named_so : (x : SheetRule) → f ≡ rule_name x → ◌≡◌ {A = Option SheetRule} (Some x) (Some r) → f ≡ rule_name r
     named_so x p q = p ∙ ap rule_name (same_some x r q)
 
-    one : (a b : Bool) → is_text (codes "T") f ≡ a → is_text (codes "E") f ≡ b → cond a (Some (First (record {}))) (cond b (Some (Second (record {}))) None) ≡ Some r → f ≡ rule_name r
-    one true b p q h = named_so (First (record {})) (text_is (codes "T") f p) h
-    one false true p q h = named_so (Second (record {})) (text_is (codes "E") f q) h
+    one : (a b : Bool) → is_text (codes "T") f ≡ a → is_text (codes "E") f ≡ b → cond a (Some (Left (record {}))) (cond b (Some (Right (record {}))) None) ≡ Some r → f ≡ rule_name r
+    one true b p q h = named_so (Left (record {})) (text_is (codes "T") f p) h
+    one false true p q h = named_so (Right (record {})) (text_is (codes "E") f q) h
     one false false p q h = absurd (no_some h)
 
 -- a site, a comma, and the rest
@@ -123,8 +123,8 @@ site_is_field III = record { commas = (refl, (refl, (refl, tt))); ends = (refl, 
 site_is_field IV = record { commas = (refl, (refl, tt)); ends = (refl, (refl, tt)); short = omega arith }
 
 rule_is_field : (r : SheetRule) → Field (rule_name r)
-rule_is_field (First t) = record { commas = (refl, tt); ends = (refl, tt); short = omega arith }
-rule_is_field (Second e) = record { commas = (refl, tt); ends = (refl, tt); short = omega arith }
+rule_is_field (Left t) = record { commas = (refl, tt); ends = (refl, tt); short = omega arith }
+rule_is_field (Right e) = record { commas = (refl, tt); ends = (refl, tt); short = omega arith }
 
 pub case_fields_are : (k : ℕ) (n : Numbers) → Small k → SmallCase n → AllByRecursion Field (case_fields k n)
 case_fields_are k n h s =
@@ -150,8 +150,8 @@ form_is text k n h s e =
     (then_some (rule_named j.more) n.rule _ _ (ap rule_named last ∙ rule_read n.rule) refl)))))))
 
 free_rule : (r : SheetRule) → parts 44 (rule_name r) ≡ rule_name r ∷ []
-free_rule (First t) = refl
-free_rule (Second e) = refl
+free_rule (Left t) = refl
+free_rule (Right e) = refl
 
 form_back : (text : List ℕ) (c : ℕ × Numbers) → case_form text ≡ Some c → parts 44 text ≡ case_fields c.0 c.1
 form_back text q e =

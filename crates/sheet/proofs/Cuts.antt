@@ -1,18 +1,25 @@
 -- A text and its first part. Assumes nothing.
-use Rattle.std.proofs.Common.{◌≡◌, ℕ, suc, ◌+◌, ◌-◌, ◌<◌, ◌≤◌, Bool, true, false, cond, eqb, ltb, List, [], ◌∷◌, length, take, drop, Some, None, sym, refl, ap, ◌∙◌, arith, ltb-true, lt-ltb}
-use Rattle.std.proofs.lemmas.List.{take_rest, length-drop}
+use Rattle.std.proofs.Common.{◌≡◌, ℕ, suc, ◌<◌, ◌≤◌, Bool, true, false, cond, eqb, ◌==◌, ltb, List, [], ◌∷◌, length, drop, Some, None, refl, ap, arith, ltb-true, ltb-false, lt-ltb, unwrap_or}
+use Rattle.std.specs.List.{position_or_len}
+use Rattle.std.proofs.lemmas.List.Recursion.{is_position_or_len}
+use Rattle.std.proofs.lemmas.List.{length-drop}
 use Rattle.std.proofs.lemmas.Bool.Decides.{nat_tests}
 use Rattle.sheet.specs.Parts.{before, parts, first, rest, parts_of}
-
-pub before_here : (m x : ℕ) (xs : List ℕ) → x ≡ m → before m (x ∷ xs) ≡ 0
-before_here m x xs e = grind (arith, nat_tests)
-
-pub before_more : (m x : ℕ) (xs : List ℕ) → (x ≡ m → ⊥) → before m (x ∷ xs) ≡ before m xs + 1
-before_more m x xs e = grind (arith, nat_tests)
 
 pub before_le : (m : ℕ) (xs : List ℕ) → before m xs ≤ length xs
 before_le m [] = omega arith
 before_le m (x ∷ xs) = let h = before_le m xs in grind (arith, nat_tests)
+
+pub before_is : (m : ℕ) (xs : List ℕ) → before m xs ≡ position_or_len (λ x. x == m) xs
+before_is m xs = is_position_or_len (before m) (λ x. x == m) refl (λ x ys. ap (λ (n : ℕ). cond (x == m) 0 n) (omega arith)) xs
+
+-- a place that is found, or else all
+pub found_or_all : (k n : ℕ) → k ≤ n → unwrap_or (cond (ltb k n) (Some k) None) n ≡ k
+found_or_all k n h = go (ltb k n) refl
+  where
+    go : (t : Bool) → ltb k n ≡ t → unwrap_or (cond t (Some k) None) n ≡ k
+    go true e = refl
+    go false e = omega (arith, ltb-false k n e)
 
 shift : (a b : ℕ) → ltb (suc a) (suc b) ≡ ltb a b
 shift a b = grind (arith, nat_tests)
@@ -25,18 +32,6 @@ cut_at m x ys false e ih = simp (e, ih, shift)
 pub parts_cut : (m : ℕ) (xs : List ℕ) → parts m xs ≡ first m xs ∷ parts_of m (rest m xs)
 parts_cut m [] = refl
 parts_cut m (x ∷ ys) = cut_at m x ys (eqb x m) refl (parts_cut m ys)
-
-pub rest_at : (m : ℕ) (xs : List ℕ) (n : ℕ) → n ≡ before m xs → n < length xs → Some (take (length xs - (n + 1)) (drop (n + 1) xs)) ≡ rest m xs
-rest_at m xs n e h =
-    let t : ltb (before m xs) (length xs) ≡ true = lt-ltb (before m xs) (length xs) (omega arith) in
-    let k : n + 1 ≡ suc (before m xs) = omega arith in
-    ap Some (take_rest xs (n + 1)) ∙ ap (λ j. Some (drop j xs)) k ∙ sym (ap (λ b. cond b (Some (drop (suc (before m xs)) xs)) None) t)
-
-pub count_some : (m : ℕ) (xs ys : List ℕ) → Some ys ≡ rest m xs → length (parts m xs) ≡ length (parts m ys) + 1
-count_some m xs ys e = ap length (parts_cut m xs) ∙ ap (λ o. suc (length (parts_of m o))) (sym e) ∙ omega arith
-
-pub count_none : (m : ℕ) (xs : List ℕ) → None ≡ rest m xs → length (parts m xs) ≡ 1
-count_none m xs e = ap length (parts_cut m xs) ∙ ap (λ o. suc (length (parts_of m o))) (sym e)
 
 shorter_at : (xs ys : List ℕ) (k : ℕ) (t : Bool) → ltb k (length xs) ≡ t → Some ys ≡ cond t (Some (drop (suc k) xs)) None → length ys < length xs
 shorter_at xs ys k true e q = let d : ys ≡ drop (suc k) xs = cc in let h = ltb-true k (length xs) e in simp (d, length-drop) (omega arith)

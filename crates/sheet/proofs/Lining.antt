@@ -2,14 +2,11 @@
 use Rattle.std.proofs.Common.{◌≡◌, ℕ, ◌+◌, ◌<◌, ◌≤◌, Bool, cond, List, ◌∷◌, Ok, Err, ap, ◌∙◌, arith, eq-eqb}
 use Rattle.std.specs.Option.{ok_or}
 use Rattle.std.proofs.lemmas.Bool.Decides.{nat_tests}
-use Rattle.bearing.specs.declared.fault.Layer.TheVariants.{Bearing, Sheet}
+use Rattle.bearing.specs.declared.fault.Layer.TheVariants.{Sheet}
 use Rattle.bearing.specs.Refusals.{out_of_range, and_then, at_field}
 use Rattle.loading.specs.Making.{case_made}
 use Rattle.sheet.specs.RowLines.{unused_zero, form_fault}
 use Rattle.sheet.specs.CaseLines.{Numbers, case_form, case_of, case_line}
-
-pub unused_stop : (own j x : ℕ) (xs : List ℕ) → own ≤ j → 0 < x → unused_zero own j (x ∷ xs) ≡ Err (out_of_range Bearing (j + 1))
-unused_stop own j x xs h k = grind (arith, nat_tests)
 
 pub unused_own : (own j x : ℕ) (xs : List ℕ) → j < own → unused_zero own j (x ∷ xs) ≡ unused_zero own (j + 1) xs
 unused_own own j x xs h = grind (arith, nat_tests)

@@ -10,12 +10,12 @@ use Rattle.bearing.specs.declared.fault.Refusal.TheVariants.{NoPlace}
 use Rattle.bearing.specs.declared.fault.Layer.TheVariants.{Bridge}
 use Rattle.kinds.specs.declared.lead.LeadRubber.{LeadRubber}
 use Rattle.kinds.specs.declared.sliding.Pendulum.{Pendulum}
-use Rattle.bearing.specs.declared.compound.Either.{Either}
-use Rattle.bearing.specs.declared.compound.Either.TheVariants.{First, Second}
+use Rattle.either.specs.declared.Either.{Either}
+use Rattle.either.specs.declared.Either.TheVariants.{Left, Right}
 use Rattle.bearing.specs.Ranges.{between}
 use Rattle.bearing.specs.Refusals.{on_line, plain_fault, with_ok}
 use Rattle.loading.specs.Making.{weight_made, case_made}
-use Rattle.sheet.specs.declared.machine.Stage.TheVariants.{WeightValue, RowNames, Rows, Cases}
+use Rattle.sheet.specs.Machine.{WeightValue, RowNames, Rows, Cases}
 use Rattle.sheet.specs.Parts.{begins}
 use Rattle.sheet.specs.Numbers.{parsed}
 use Rattle.sheet.specs.RowLines.{form_fault, names_fault, Row, row_line}
@@ -65,8 +65,8 @@ row_is_line : (r : Row) → RowMade r → Line (row_text r)
 row_is_line r h = record { ends = parted_ends (row_fields r) (row_fields_are r h); short = short r.member (parted_length (row_fields r) (omega arith) (row_fields_are r h)) }
   where
     short : (m : Either LeadRubber Pendulum) → length (row_text r) < 8 * suc (suc (length (map decimal (five m)))) → length (row_text r) < 64
-    short (First b) q = omega arith
-    short (Second b) q = omega arith
+    short (Left b) q = omega arith
+    short (Right b) q = omega arith
 
 case_is_line : (k : ℕ) (n : Numbers) → Small k → case_made n ≡ Ok n → Line (case_text k n)
 case_is_line k n h e =

@@ -7,8 +7,8 @@ use Rattle.bearing.specs.declared.fault.Fault.{Fault}
 use Rattle.bearing.specs.declared.fault.Layer.TheVariants.{Bearing}
 use Rattle.kinds.specs.declared.lead.LeadRubber.{LeadRubber}
 use Rattle.kinds.specs.declared.sliding.Pendulum.{Pendulum}
-use Rattle.bearing.specs.declared.compound.Either.{Either}
-use Rattle.bearing.specs.declared.compound.Either.TheVariants.{First, Second}
+use Rattle.either.specs.declared.Either.{Either}
+use Rattle.either.specs.declared.Either.TheVariants.{Left, Right}
 use Rattle.bearing.specs.Ranges.{between}
 use Rattle.bearing.specs.Refusals.{and_then, at_field, out_of_range}
 use Rattle.bearing.specs.Fields.{field_checked}
@@ -161,7 +161,7 @@ module _ {K : Type 0} (own : ℕ) (ranged : List ℕ → Result (Unit {0}) Fault
 in_field : (x low high place : ℕ) (u : Unit {0}) → high < 10000000 → field_checked x low high place ≡ Ok u → Small x
 in_field x low high place u h e = small_between low high x h (of_cond (between low high x) tt u (out_of_range Bearing place) e).0
 
-lead_small : (b : LeadRubber) → lead_ranged b ≡ Ok tt → AllByRecursion Small (five (First b))
+lead_small : (b : LeadRubber) → lead_ranged b ≡ Ok tt → AllByRecursion Small (five (Left b))
 lead_small b e =
     let a = of_then (field_checked b.lead 10 400 1) _ tt e in
     let c = of_then (field_checked b.stress 50 200 2) _ tt a.2 in
@@ -180,7 +180,7 @@ lead_small b e =
       ),
     )
 
-pendulum_small : (b : Pendulum) → pendulum_ranged b ≡ Ok tt → AllByRecursion Small (five (Second b))
+pendulum_small : (b : Pendulum) → pendulum_ranged b ≡ Ok tt → AllByRecursion Small (five (Right b))
 pendulum_small b e =
     let a = of_then (field_checked b.load 10 20000 1) _ tt e in
     let c = of_then (field_checked b.friction 10 200 2) _ tt a.2 in
@@ -202,8 +202,8 @@ pendulum_in b e = (of_then (pendulum_ranged b) _ b e).1
 
 -- the numbers of a row that is made are small
 five_small : (m : Either LeadRubber Pendulum) → BearingMade m → AllByRecursion Small (five m)
-five_small (First b) e = lead_small b (lead_in b e)
-five_small (Second b) e = pendulum_small b (pendulum_in b e)
+five_small (Left b) e = lead_small b (lead_in b e)
+five_small (Right b) e = pendulum_small b (pendulum_in b e)
 
 count_in : (m : Either LeadRubber Pendulum) (n : ℕ) (r : Row) → group_made kind_force n m ≡ Ok r → count_checked n ≡ Ok tt
 count_in m n r e = (of_then (count_checked n) _ r e).1
@@ -224,19 +224,19 @@ tail_parts : (n : ℕ) (ns : List ℕ) → AllByRecursion Small (n ∷ ns) → p
 tail_parts n ns h = parts_parted 44 (decimal n) (map decimal ns) (fields_free (map decimal (n ∷ ns)) (decimal_fields (n ∷ ns) h))
 
 row_is : (n : ℕ) (m : Either LeadRubber Pendulum) (r : Row) → BearingMade m → group_made kind_force n m ≡ Ok r → row_line (row_text (group_of n m)) ≡ Ok r
-row_is n (First b) r e g =
-    let counted = count_in (First b) n r g in
-    let hs = five_small (First b) e in
-    then_ok (kind_row lead_fields (λ p. lead_ranged (lead_on_line p)) (λ p. lead_checked (lead_on_line p)) (parted 44 (map decimal (n ∷ five (First b))))) (n, b) _ _
-    (kind_is lead_fields (λ p. lead_ranged (lead_on_line p)) (λ p. lead_checked (lead_on_line p)) (parted 44 (map decimal (n ∷ five (First b)))) n (five (First b)) b
-    (tail_parts n (five (First b)) (count_small n counted, hs)) refl (count_small n counted) hs counted (lead_in b e) refl e)
+row_is n (Left b) r e g =
+    let counted = count_in (Left b) n r g in
+    let hs = five_small (Left b) e in
+    then_ok (kind_row lead_fields (λ p. lead_ranged (lead_on_line p)) (λ p. lead_checked (lead_on_line p)) (parted 44 (map decimal (n ∷ five (Left b))))) (n, b) _ _
+    (kind_is lead_fields (λ p. lead_ranged (lead_on_line p)) (λ p. lead_checked (lead_on_line p)) (parted 44 (map decimal (n ∷ five (Left b)))) n (five (Left b)) b
+    (tail_parts n (five (Left b)) (count_small n counted, hs)) refl (count_small n counted) hs counted (lead_in b e) refl e)
     g
-row_is n (Second b) r e g =
-    let counted = count_in (Second b) n r g in
-    let hs = five_small (Second b) e in
-    then_ok (kind_row pendulum_fields (λ p. pendulum_ranged (pendulum_on_line p)) (λ p. pendulum_checked (pendulum_on_line p)) (parted 44 (map decimal (n ∷ five (Second b))))) (n, b) _ _
-    (kind_is pendulum_fields (λ p. pendulum_ranged (pendulum_on_line p)) (λ p. pendulum_checked (pendulum_on_line p)) (parted 44 (map decimal (n ∷ five (Second b)))) n (five (Second b)) b
-    (tail_parts n (five (Second b)) (count_small n counted, hs)) refl (count_small n counted) hs counted (pendulum_in b e) refl e)
+row_is n (Right b) r e g =
+    let counted = count_in (Right b) n r g in
+    let hs = five_small (Right b) e in
+    then_ok (kind_row pendulum_fields (λ p. pendulum_ranged (pendulum_on_line p)) (λ p. pendulum_checked (pendulum_on_line p)) (parted 44 (map decimal (n ∷ five (Right b))))) (n, b) _ _
+    (kind_is pendulum_fields (λ p. pendulum_ranged (pendulum_on_line p)) (λ p. pendulum_checked (pendulum_on_line p)) (parted 44 (map decimal (n ∷ five (Right b)))) n (five (Right b)) b
+    (tail_parts n (five (Right b)) (count_small n counted, hs)) refl (count_small n counted) hs counted (pendulum_in b e) refl e)
     g
 
 -- the line of a row that is made gives that row
@@ -245,8 +245,8 @@ row_read r h = row_is r.count r.member r h.bearing h.group
 
 -- its fields
 letter_field : (m : Either LeadRubber Pendulum) → Field (letter m ∷ [])
-letter_field (First b) = record { commas = (refl, tt); ends = (refl, tt); short = omega arith }
-letter_field (Second b) = record { commas = (refl, tt); ends = (refl, tt); short = omega arith }
+letter_field (Left b) = record { commas = (refl, tt); ends = (refl, tt); short = omega arith }
+letter_field (Right b) = record { commas = (refl, tt); ends = (refl, tt); short = omega arith }
 
 pub row_fields_are : (r : Row) → RowMade r → AllByRecursion Field (row_fields r)
 row_fields_are r h = (
@@ -255,7 +255,7 @@ row_fields_are r h = (
 )
 
 -- back: five numbers of a line are those of the bearing
-lead_five : (p : List ℕ) → length p ≡ 5 → five (First (lead_on_line p)) ≡ p
+lead_five : (p : List ℕ) → length p ≡ 5 → five (Left (lead_on_line p)) ≡ p
 lead_five [] l = absurd (omega arith)
 lead_five (a ∷ []) l = absurd (omega arith)
 lead_five (a ∷ (b ∷ [])) l = absurd (omega arith)
@@ -271,7 +271,7 @@ of_unused false z r e = (refl, e)
 no_more : (x : ℕ) → ltb 0 x ≡ false → x ≡ 0
 no_more x e = let h = ltb-false 0 x e in omega arith
 
-pendulum_five : (p : List ℕ) → length p ≡ 5 → unused_zero 3 0 p ≡ Ok tt → five (Second (pendulum_on_line p)) ≡ p
+pendulum_five : (p : List ℕ) → length p ≡ 5 → unused_zero 3 0 p ≡ Ok tt → five (Right (pendulum_on_line p)) ≡ p
 pendulum_five [] l u = absurd (omega arith)
 pendulum_five (a ∷ []) l u = absurd (omega arith)
 pendulum_five (a ∷ (b ∷ [])) l u = absurd (omega arith)
@@ -308,16 +308,16 @@ lead_back text r e =
     let p = of_then (kind_row lead_fields (λ p. lead_ranged (lead_on_line p)) (λ p. lead_checked (lead_on_line p)) text) _ r e in
     let k = kind_back lead_fields (λ p. lead_ranged (lead_on_line p)) (λ p. lead_checked (lead_on_line p)) text p.0 p.1 in
     let s = lead_same (lead_on_line k.five_are) p.0.1 k.is in
-    row_from p.0.0 (First p.0.1) r text (ap lead_checked (sym s) ∙ k.is) p.2
-    (k.left ∙ ap (λ ns. map decimal (p.0.0 ∷ ns)) (sym (lead_five k.five_are k.just) ∙ ap (λ b. five (First b)) s))
+    row_from p.0.0 (Left p.0.1) r text (ap lead_checked (sym s) ∙ k.is) p.2
+    (k.left ∙ ap (λ ns. map decimal (p.0.0 ∷ ns)) (sym (lead_five k.five_are k.just) ∙ ap (λ b. five (Left b)) s))
 
 pendulum_back : (text : List ℕ) (r : Row) → pendulum_row text ≡ Ok r → RowBack (80 ∷ (44 ∷ text)) r
 pendulum_back text r e =
     let p = of_then (kind_row pendulum_fields (λ p. pendulum_ranged (pendulum_on_line p)) (λ p. pendulum_checked (pendulum_on_line p)) text) _ r e in
     let k = kind_back pendulum_fields (λ p. pendulum_ranged (pendulum_on_line p)) (λ p. pendulum_checked (pendulum_on_line p)) text p.0 p.1 in
     let s = pendulum_same (pendulum_on_line k.five_are) p.0.1 k.is in
-    row_from p.0.0 (Second p.0.1) r text (ap pendulum_checked (sym s) ∙ k.is) p.2
-    (k.left ∙ ap (λ ns. map decimal (p.0.0 ∷ ns)) (sym (pendulum_five k.five_are k.just k.unused) ∙ ap (λ b. five (Second b)) s))
+    row_from p.0.0 (Right p.0.1) r text (ap pendulum_checked (sym s) ∙ k.is) p.2
+    (k.left ∙ ap (λ ns. map decimal (p.0.0 ∷ ns)) (sym (pendulum_five k.five_are k.just k.unused) ∙ ap (λ b. five (Right b)) s))
 
 by_letter : (k : ℕ) (text : List ℕ) (r : Row) (a b : Bool) → eqb k 76 ≡ a → eqb k 80 ≡ b → cond a (lead_row text) (cond b (pendulum_row text) (Err form_fault)) ≡ Ok r → RowBack (k ∷ (44 ∷ text)) r
 by_letter k text r true b p q e = subst (λ (x : ℕ). RowBack (x ∷ (44 ∷ text)) r) (sym (eqb-true k 76 p)) (lead_back text r e)

@@ -1,11 +1,13 @@
 -- One line of a sheet, by what it changes: where the reader stands, the rows, or the cases. Assumes nothing.
-use Rattle.std.proofs.Common.{◌≡◌, ℕ, ◌≤◌, true, false, List, [], ◌∷◌, length, get_or, drop, Ok, Err, codes, Result, sym, refl, ap, ◌∙◌, arith}
+use Rattle.std.proofs.Common.{◌≡◌, ℕ, ◌≤◌, Bool, true, false, not, List, [], ◌∷◌, length, get_or, Ok, Err, ◌&&◌, ◌==◌, codes, Result, sym, refl, ap, ◌∙◌, arith}
+use Rattle.std.specs.Cmp.Lexicographic.{pointwise}
+use Rattle.std.proofs.lemmas.Bool.{cond-true, cond-false}
 use Rattle.std.proofs.lemmas.Bool.Decides.{nat_tests}
 use Rattle.bearing.specs.declared.fault.Fault.{Fault}
 use Rattle.bearing.specs.Refusals.{with_ok}
-use Rattle.sheet.specs.Parts.{begins}
-use Rattle.sheet.specs.RowLines.{row_line, lead_row, pendulum_row}
-use Rattle.sheet.specs.Machine.{State, step, after, answer}
+use Rattle.sheet.specs.Parts.{begins, is_text}
+use Rattle.sheet.specs.RowLines.{names_fault}
+use Rattle.sheet.specs.Machine.{Standing, State, named_as, step, after, answer}
 
 answer_with : {S T : Type 0} (r : Result S Fault) (f : S → T) → answer (with_ok r f) ≡ answer r
 answer_with (Ok x) f = refl
@@ -28,6 +30,26 @@ changed row_places case_places st line x f s whole is r s' e e' =
       state = ap f e' ∙ sym (ap (λ (y : Result State Fault). after y st) is ∙ ap (λ t. after (with_ok x f) t) whole ∙ after_with x f s);
     }
 
+not_back : (b t : Bool) → not b ≡ t → b ≡ not t
+not_back true true e = sym e
+not_back true false e = refl
+not_back false true e = refl
+not_back false false e = sym e
+
+-- what a comparison of two texts says
+compared : (line text : List ℕ) → pointwise (λ a b. a == b) line text ≡ is_text text line
+compared [] [] = refl
+compared [] (x ∷ xs) = refl
+compared (y ∷ ys) [] = refl
+compared (y ∷ ys) (x ∷ xs) = ap (λ t. y == x && t) (compared ys xs)
+
+-- a names line, by the comparison with its text
+pub named_not : (text line : List ℕ) (next : Standing) → true ≡ not (pointwise (λ a b. a == b) line text) → named_as text next line ≡ Err names_fault
+named_not text line next e = cond-false (is_text text line) _ _ (sym (compared line text) ∙ not_back (pointwise (λ a b. a == b) line text) true (sym e))
+
+pub named_so : (text line : List ℕ) (next : Standing) → false ≡ not (pointwise (λ a b. a == b) line text) → named_as text next line ≡ Ok next
+named_so text line next e = cond-true (is_text text line) _ _ (sym (compared line text) ∙ not_back (pointwise (λ a b. a == b) line text) false (sym e))
+
 -- a line that begins with `case`
 pub begins_case : (line : List ℕ) → 4 ≤ length line → get_or line 0 0 ≡ 99 → get_or line 1 0 ≡ 97 → get_or line 2 0 ≡ 115 → get_or line 3 0 ≡ 101 → begins (codes "case") line ≡ true
 begins_case [] l a b c d = absurd (omega arith)
@@ -41,13 +63,3 @@ pub begins_row : (line : List ℕ) → 2 ≤ length line → get_or line 1 0 ≡
 begins_row [] l c = absurd (omega arith)
 begins_row (x ∷ []) l c = absurd (omega arith)
 begins_row (x ∷ (y ∷ more)) l c = grind (arith, nat_tests)
-
-pub lead_is : (line : List ℕ) → 2 ≤ length line → get_or line 1 0 ≡ 44 → get_or line 0 0 ≡ 76 → row_line line ≡ lead_row (drop 2 line)
-lead_is [] l c k = absurd (omega arith)
-lead_is (x ∷ []) l c k = absurd (omega arith)
-lead_is (x ∷ (y ∷ more)) l c k = simp (c, k)
-
-pub pendulum_is : (line : List ℕ) → 2 ≤ length line → get_or line 1 0 ≡ 44 → get_or line 0 0 ≡ 80 → row_line line ≡ pendulum_row (drop 2 line)
-pendulum_is [] l c k = absurd (omega arith)
-pendulum_is (x ∷ []) l c k = absurd (omega arith)
-pendulum_is (x ∷ (y ∷ more)) l c k = simp (c, k)

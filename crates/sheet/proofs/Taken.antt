@@ -10,10 +10,6 @@ abbrev pub join_to : List ℕ → Option (List ℕ) → Option (List ℕ)
 join_to ns None = None
 join_to ns (Some ms) = Some (ns ++ ms)
 
-pub join_nil : (o : Option (List ℕ)) → join_to [] o ≡ o
-join_nil None = refl
-join_nil (Some ns) = refl
-
 less : (n i : ℕ) → i < n → n - i ≡ suc (n - (i + 1))
 less n i h = omega arith
 
@@ -30,6 +26,3 @@ join_some ns v (Some ms) = ap Some (sym (append_assoc ns (v ∷ []) ms))
 -- more fields than wanted, and just as many
 pub sized_zero : (ns : List ℕ) (k : ℕ) (text : List ℕ) → k ≡ 0 → join_to ns (sized k (parts 44 text)) ≡ None
 sized_zero ns k text e = ap (λ j. join_to ns (sized j (parts 44 text))) e ∙ ap (λ fs. join_to ns (sized 0 fs)) (parts_cut 44 text)
-
-pub sized_done : (ns : List ℕ) (k : ℕ) → k ≡ 0 → join_to ns (sized k []) ≡ Some (ns ++ [])
-sized_done ns k e = ap (λ j. join_to ns (sized j [])) e

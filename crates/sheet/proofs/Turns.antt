@@ -1,11 +1,11 @@
 -- One line more of a sheet. Assumes nothing.
 use Rattle.std.proofs.Common.{◌≡◌, ℕ, ◌+◌, List, [], ◌∷◌, length, Some, None, Ok, Err, Result, sym, refl, ap, ◌∙◌, arith}
 use Rattle.bearing.specs.declared.fault.Fault.{Fault}
-use Rattle.bearing.specs.Refusals.{lined_fault, on_line}
+use Rattle.bearing.specs.Refusals.{lined_fault, on_line, with_ok}
+use Rattle.loading.specs.declared.weighing.Weight.{Weight}
 use Rattle.sheet.specs.Parts.{parts, first, rest, parts_of}
-use Rattle.sheet.specs.RowLines.{form_fault}
 use Rattle.sheet.specs.Machine.{State, step, after, answer}
-use Rattle.sheet.specs.Reading.{last_part, onward, read_lines, read_parts}
+use Rattle.sheet.specs.Reading.{Content, ended_with, last_part, onward, read_lines, read_parts}
 use Rattle.sheet.proofs.Cuts.{parts_cut}
 
 module _ (rp cp : ℕ) where
@@ -40,7 +40,16 @@ pub err_at : (k : ℕ) (x : Result State Fault) (d : Fault) → on_line k (answe
 err_at k (Ok s) d q = let w : ◌≡◌ {A = ℕ} 0 1 = cc in absurd (omega arith)
 err_at k (Err z) d q = let g : d ≡ lined_fault k z = cc in (z, refl, g)
 
--- a last part that is not empty
-pub last_some : (k : ℕ) (st : State) (l : List ℕ) → (length l ≡ 0 → ⊥) → last_part k st l ≡ Err (lined_fault k form_fault)
-last_some k st [] h = absurd (h refl)
-last_some k st (x ∷ xs) h = refl
+-- what the end is answered, by what stands after the last line end
+with_line : (k : ℕ) (r : Result Weight Fault) (f : ℕ → Content) → with_ok (on_line k r) (λ w. f w.kn) ≡ with_ok (on_line k (with_ok r (λ w. w.kn))) f
+with_line k (Ok w) f = refl
+with_line k (Err e) f = refl
+
+pub last_is : (k : ℕ) (st : State) (l : List ℕ) (r : Result Weight Fault) → with_ok r (λ w. w.kn) ≡ ended_with l st.at (length st.cases) →
+    with_ok {T = Content} (on_line k r) (λ w. record { weight = w.kn; rows = st.rows; cases = st.cases }) ≡ last_part k st l
+last_is k st [] r e =
+    let f : ℕ → Content = λ n. record { weight = n; rows = st.rows; cases = st.cases } in
+    with_line k r f ∙ ap (λ v. with_ok (on_line k v) f) e
+last_is k st (x ∷ xs) r e =
+    let f : ℕ → Content = λ n. record { weight = n; rows = st.rows; cases = st.cases } in
+    with_line k r f ∙ ap (λ v. with_ok (on_line k v) f) e

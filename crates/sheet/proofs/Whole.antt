@@ -9,8 +9,7 @@ use Rattle.bearing.specs.Refusals.{and_then, at_field, on_line, out_of_range, pl
 use Rattle.loading.specs.declared.weighing.Weight.{Weight}
 use Rattle.listing.specs.Lists.{free}
 use Rattle.loading.specs.Making.{case_made}
-use Rattle.sheet.specs.declared.machine.Stage.{Stage}
-use Rattle.sheet.specs.declared.machine.Stage.TheVariants.{WeightNames, WeightValue, RowNames, Rows, Cases}
+use Rattle.sheet.specs.Machine.{Stage, WeightNames, WeightValue, RowNames, Rows, Cases}
 use Rattle.sheet.specs.Parts.{parts, begins}
 use Rattle.sheet.specs.RowLines.{Row, row_line, form_fault}
 use Rattle.sheet.specs.CaseLines.{Numbers, case_form, case_of, case_line}

@@ -6,19 +6,19 @@ use Rattle.bearing.specs.declared.fault.Layer.TheVariants.{Sheet}
 use Rattle.bearing.specs.Refusals.{out_of_range, and_then, at_field}
 use Rattle.damping.specs.declared.table.TableRule.{TableRule}
 use Rattle.damping.specs.declared.eurocode.EurocodeRule.{EurocodeRule}
-use Rattle.damping.specs.declared.either.EitherRule.{EitherRule}
-use Rattle.damping.specs.declared.either.EitherRule.TheVariants.{First, Second}
+use Rattle.either.specs.declared.Either.{Either}
+use Rattle.either.specs.declared.Either.TheVariants.{Left, Right}
 use Rattle.loading.specs.declared.loads.Site.{Site}
 use Rattle.loading.specs.declared.loads.Site.TheVariants.{I, II, III, IV}
 use Rattle.loading.specs.declared.loads.CaseNumbers.{CaseNumbers}
 use Rattle.loading.specs.Making.{case_made}
-use Rattle.sheet.specs.Parts.{first, rest, is_text}
-use Rattle.sheet.specs.Numbers.{option_then, number_field}
+use Rattle.sheet.specs.Parts.{first, is_text}
+use Rattle.sheet.specs.Numbers.{option_then, field_then, number_field}
 use Rattle.sheet.specs.RowLines.{form_fault}
 
 -- the rule of a sheet: by the table or by the Eurocode
 abbrev pub SheetRule : Type 0
-SheetRule = EitherRule TableRule EurocodeRule
+SheetRule = Either TableRule EurocodeRule
 
 abbrev pub Numbers : Type 0
 Numbers = CaseNumbers SheetRule
@@ -33,11 +33,11 @@ site_named text =
 
 -- a rule by its letter
 abbrev pub rule_named : List ℕ → Option SheetRule
-rule_named text = cond (is_text (codes "T") text) (Some (First (record {}))) (cond (is_text (codes "E") text) (Some (Second (record {}))) None)
+rule_named text = cond (is_text (codes "T") text) (Some (Left (record {}))) (cond (is_text (codes "E") text) (Some (Right (record {}))) None)
 
 -- a site, a comma, and the rest of the line
 abbrev pub site_field : List ℕ → Option (Site × List ℕ)
-site_field text = option_then (site_named (first 44 text)) (λ s. option_then (rest 44 text) (λ more. Some (s, more)))
+site_field text = field_then (site_named (first 44 text)) text
 
 -- a case line by its form: its number, and the numbers of the case
 abbrev pub case_form : List ℕ → Option (ℕ × Numbers)

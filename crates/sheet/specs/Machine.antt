@@ -1,17 +1,24 @@
 -- What a line may be depends on where the reader stands. Assumes nothing.
-use Rattle.std.specs.Prelude.{ℕ, ◌+◌, cond, List, length, Some, Ok, Err, codes, Option, Result, nat_lt}
-use Rattle.std.specs.Option.{ok_or, option_map}
+use Rattle.std.specs.Prelude.{ℕ, ◌+◌, cond, List, length, Some, None, Ok, Err, codes, Option, Result, nat_lt}
+use Rattle.std.specs.Option.{ok_or}
 use Rattle.bearing.specs.declared.fault.Fault.{Fault}
 use Rattle.bearing.specs.Refusals.{and_then, with_ok}
 use Rattle.loading.specs.Making.{weight_made}
 use Rattle.listing.specs.Lists.{push_answer, pushed}
-use Rattle.sheet.specs.declared.machine.Stage.{Stage}
-use Rattle.sheet.specs.declared.machine.Stage.TheVariants.{WeightNames, WeightValue, RowNames, Rows, Cases}
 use Rattle.sheet.specs.declared.machine.Reader.{Reader}
+use Rattle.sheet.specs.declared.machine.Reader.TheVariants as reader
 use Rattle.sheet.specs.Parts.{begins, is_text}
 use Rattle.sheet.specs.Numbers.{parsed}
 use Rattle.sheet.specs.RowLines.{form_fault, names_fault, Row, row_line}
 use Rattle.sheet.specs.CaseLines.{Numbers, case_line}
+
+-- which line may come next
+pub data Stage : Type 0 where
+  WeightNames : Stage
+  WeightValue : Stage
+  RowNames : Stage
+  Rows : Stage
+  Cases : Stage
 
 -- where the reader stands, and the weight in kilonewtons once it is read
 pub record Standing : Type 0 where
@@ -19,7 +26,11 @@ pub record Standing : Type 0 where
   pub weight : Option ℕ
 
 abbrev pub standing : Reader → Standing
-standing r = record { stage = r.stage; weight = option_map (λ w. w.kn) r.weight }
+standing reader.WeightNames = record { stage = WeightNames; weight = None }
+standing reader.WeightValue = record { stage = WeightValue; weight = None }
+standing (reader.RowNames w) = record { stage = RowNames; weight = Some w.kn }
+standing (reader.Rows w) = record { stage = Rows; weight = Some w.kn }
+standing (reader.Cases w) = record { stage = Cases; weight = Some w.kn }
 
 -- the same with the rows and the cases that are read so far
 pub record State : Type 0 where
@@ -44,9 +55,13 @@ case_names = codes "case,accel,site,slo,shi,klo,khi,rule"
 abbrev pub moved_to : Stage → Standing → Standing
 moved_to next s = record { stage = next; weight = s.weight }
 
--- a names line is the text itself, and then the reader goes on
+-- a names line is the text itself, and then the reader stands elsewhere
+abbrev pub named_as : List ℕ → Standing → List ℕ → Result Standing Fault
+named_as text next line = cond (is_text text line) (Ok next) (Err names_fault)
+
+-- and so it goes on
 abbrev pub named : List ℕ → Stage → Standing → List ℕ → Result Standing Fault
-named text next s line = cond (is_text text line) (Ok (moved_to next s)) (Err names_fault)
+named text next s line = named_as text (moved_to next s) line
 
 -- the third names line may stand only after a row
 abbrev pub cases_named : ℕ → Standing → List ℕ → Result Standing Fault

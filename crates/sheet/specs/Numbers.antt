@@ -17,9 +17,13 @@ abbrev pub parsed : List ℕ → Option ℕ
 parsed [] = None
 parsed (b ∷ bs) = cond (nat_lt 7 (length (b ∷ bs))) None (cond (b == 48) (cond (nat_lt 1 (length (b ∷ bs))) None (Some 0)) (digits_from 0 (b ∷ bs)))
 
+-- what the first field holds, a comma, and the rest of the line
+abbrev pub field_then : {T : Type 0} → Option T → List ℕ → Option (T × List ℕ)
+field_then held text = option_then held (λ x. option_then (rest 44 text) (λ more. Some (x, more)))
+
 -- a number, a comma, and the rest of the line
 abbrev pub number_field : List ℕ → Option (ℕ × List ℕ)
-number_field text = option_then (parsed (first 44 text)) (λ n. option_then (rest 44 text) (λ more. Some (n, more)))
+number_field text = field_then (parsed (first 44 text)) text
 
 abbrev pub cons_if : Option ℕ → Option (List ℕ) → Option (List ℕ)
 cons_if None o = None

@@ -5,12 +5,10 @@ use Rattle.bearing.specs.declared.fault.Refusal.TheVariants.{SheetTooLong}
 use Rattle.bearing.specs.declared.fault.Layer.TheVariants.{Sheet}
 use Rattle.bearing.specs.Refusals.{plain_fault, lined_fault, on_line, with_ok}
 use Rattle.loading.specs.Making.{case_made}
-use Rattle.sheet.specs.declared.machine.Stage.{Stage}
-use Rattle.sheet.specs.declared.machine.Stage.TheVariants.{WeightNames, WeightValue, RowNames, Rows, Cases}
 use Rattle.sheet.specs.Parts.{parts}
 use Rattle.sheet.specs.RowLines.{form_fault, names_fault, Row}
 use Rattle.sheet.specs.CaseLines.{Numbers}
-use Rattle.sheet.specs.Machine.{State, step}
+use Rattle.sheet.specs.Machine.{Stage, WeightNames, WeightValue, RowNames, Rows, Cases, Standing, State, step}
 
 -- what an accepted sheet holds; the weight in kilonewtons
 pub record Content : Type 0 where
@@ -26,6 +24,11 @@ weight_at_end RowNames w n = Err names_fault
 weight_at_end Rows w n = Err names_fault
 weight_at_end Cases None n = Err names_fault
 weight_at_end Cases (Some w) n = cond (nat_lt 0 n) (Ok w) (Err names_fault)
+
+-- the same by what stands after the last line end: anything there would be a line without an end
+abbrev pub ended_with : List ℕ → Standing → ℕ → Result ℕ Fault
+ended_with [] at n = weight_at_end at.stage at.weight n
+ended_with (x ∷ xs) at n = Err form_fault
 
 -- a sheet that ends before line k
 abbrev pub finished : ℕ → State → Result Content Fault

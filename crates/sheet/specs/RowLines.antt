@@ -6,12 +6,13 @@ use Rattle.bearing.specs.declared.fault.Refusal.TheVariants.{NamesLine, ValueLin
 use Rattle.bearing.specs.declared.fault.Layer.TheVariants.{Bearing, Sheet}
 use Rattle.kinds.specs.declared.lead.LeadRubber.{LeadRubber}
 use Rattle.kinds.specs.declared.sliding.Pendulum.{Pendulum}
-use Rattle.bearing.specs.declared.compound.Either.{Either}
-use Rattle.bearing.specs.declared.compound.Either.TheVariants.{First, Second}
+use Rattle.either.specs.declared.Either.{Either}
+use Rattle.either.specs.declared.Either.TheVariants.{Left, Right}
 use Rattle.bearing.specs.declared.compound.Group.{Group}
 use Rattle.bearing.specs.Refusals.{plain_fault, out_of_range, and_then, at_field}
 use Rattle.bearing.specs.Laws.{Curve}
-use Rattle.bearing.specs.Compound.{by_kind, count_checked, group_made}
+use Rattle.bearing.specs.Compound.{count_checked, group_made}
+use Rattle.either.specs.Either.{either}
 use Rattle.kinds.specs.Leads.{lead_letter, lead_fields, lead_ranged, lead_checked, lead_on_line, lead_force}
 use Rattle.kinds.specs.Pendulums.{pendulum_letter, pendulum_fields, pendulum_ranged, pendulum_checked, pendulum_on_line, pendulum_force}
 use Rattle.sheet.specs.Numbers.{option_then, number_field, sized}
@@ -31,7 +32,7 @@ Row = Group (Either LeadRubber Pendulum)
 
 -- the force of one of a row's bearings
 abbrev pub kind_force : Either LeadRubber Pendulum → Curve
-kind_force = by_kind lead_force pendulum_force
+kind_force = either lead_force pendulum_force
 
 -- the count, and the five numbers after it
 abbrev pub row_form : List ℕ → Option (ℕ × List ℕ)
@@ -58,13 +59,13 @@ kind_row own ranged made text = and_then (ok_or (row_form text) form_fault) (row
 abbrev pub lead_row : List ℕ → Result Row Fault
 lead_row text =
     and_then (kind_row lead_fields (λ p. lead_ranged (lead_on_line p)) (λ p. lead_checked (lead_on_line p)) text)
-    (λ c. group_made kind_force c.0 (First c.1))
+    (λ c. group_made kind_force c.0 (Left c.1))
 
 -- a row of pendulum bearings
 abbrev pub pendulum_row : List ℕ → Result Row Fault
 pendulum_row text =
     and_then (kind_row pendulum_fields (λ p. pendulum_ranged (pendulum_on_line p)) (λ p. pendulum_checked (pendulum_on_line p)) text)
-    (λ c. group_made kind_force c.0 (Second c.1))
+    (λ c. group_made kind_force c.0 (Right c.1))
 
 -- a row line by its letter; another letter, or no comma after it, is not of the form
 abbrev pub row_line : List ℕ → Result Row Fault

@@ -3,12 +3,12 @@ use Rattle.std.specs.Prelude.{◌≡◌, ℕ, ◌+◌, ◌<◌, ◌≤◌, ◌�
 use Rattle.std.specs.List.{AllByRecursion}
 use Rattle.kinds.specs.declared.lead.LeadRubber.{LeadRubber}
 use Rattle.kinds.specs.declared.sliding.Pendulum.{Pendulum}
-use Rattle.bearing.specs.declared.compound.Either.{Either}
-use Rattle.bearing.specs.declared.compound.Either.TheVariants.{First, Second}
+use Rattle.either.specs.declared.Either.{Either}
+use Rattle.either.specs.declared.Either.TheVariants.{Left, Right}
 use Rattle.bearing.specs.Compound.{group_made}
 use Rattle.kinds.specs.Leads.{lead_letter, lead_checked}
 use Rattle.kinds.specs.Pendulums.{pendulum_letter, pendulum_checked}
-use Rattle.damping.specs.declared.either.EitherRule.TheVariants as rules
+use Rattle.either.specs.declared.Either.TheVariants as rules
 use Rattle.loading.specs.declared.loads.Site.{Site}
 use Rattle.loading.specs.declared.loads.Site.TheVariants.{I, II, III, IV}
 use Rattle.loading.specs.Making.{weight_made}
@@ -25,13 +25,13 @@ parted m (f ∷ (g ∷ fs)) = f ++ (m ∷ parted m (g ∷ fs))
 
 -- the letter of a bearing's kind
 abbrev pub letter : Either LeadRubber Pendulum → ℕ
-letter (First b) = lead_letter
-letter (Second b) = pendulum_letter
+letter (Left b) = lead_letter
+letter (Right b) = pendulum_letter
 
 -- the five numbers of a bearing; a pendulum's last two are 0
 abbrev pub five : Either LeadRubber Pendulum → List ℕ
-five (First b) = b.lead ∷ (b.stress ∷ (b.bonded ∷ (b.modulus ∷ (b.rubber ∷ []))))
-five (Second b) = b.load ∷ (b.friction ∷ (b.radius ∷ (0 ∷ (0 ∷ []))))
+five (Left b) = b.lead ∷ (b.stress ∷ (b.bonded ∷ (b.modulus ∷ (b.rubber ∷ []))))
+five (Right b) = b.load ∷ (b.friction ∷ (b.radius ∷ (0 ∷ (0 ∷ []))))
 
 -- the fields of a row: its letter, its count, p1 to p5
 abbrev pub row_fields : Row → List (List ℕ)
@@ -50,8 +50,8 @@ site_name IV = codes "IV"
 
 -- the letter of a rule: T by the table, E by the Eurocode
 abbrev pub rule_name : SheetRule → List ℕ
-rule_name (rules.First t) = codes "T"
-rule_name (rules.Second e) = codes "E"
+rule_name (rules.Left t) = codes "T"
+rule_name (rules.Right e) = codes "E"
 
 -- the fields of the k-th case: its number, its acceleration, its site, its four bounds, its rule
 abbrev pub case_fields : ℕ → Numbers → List (List ℕ)
@@ -83,8 +83,8 @@ sheet_text c = ended (sheet_lines c)
 
 -- a bearing that making accepts
 abbrev pub BearingMade : Either LeadRubber Pendulum → Type 0
-BearingMade (First b) = lead_checked b ≡ Ok b
-BearingMade (Second b) = pendulum_checked b ≡ Ok b
+BearingMade (Left b) = lead_checked b ≡ Ok b
+BearingMade (Right b) = pendulum_checked b ≡ Ok b
 
 -- a row that making accepts: its bearing, then its count and the greatest force of them all
 pub record RowMade (r : Row) : Type 0 where

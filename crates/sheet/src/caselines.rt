@@ -1,18 +1,16 @@
 ghost use Rattle.std.specs.Prelude.{◌≡◌};
 ghost use Rattle.std.specs.Option.{option_map};
-ghost use Rattle.bearing.specs.Refusals.{with_ok};
 ghost use Rattle.loading.specs.Making.{case_made};
 ghost use Rattle.sheet.specs.CaseLines.{site_named, rule_named, site_field, case_form, case_line};
 
-use crate::numbers::number_field;
-use crate::parts::split_first;
-use crate::rowlines::sheet_fault;
+use crate::numbers::{number_field, parsed_field};
 use bearing::{Fault, Layer, Refusal, at_field};
-use damping::{EitherRule, EurocodeRule, TableRule};
+use damping::{EurocodeRule, TableRule};
+use either::Either;
 use loading::{Case, CaseNumbers, Site};
 
 // The rule of a sheet: T by the table, E by the Eurocode.
-pub type SheetRule = EitherRule<TableRule, EurocodeRule>;
+pub type SheetRule = Either<TableRule, EurocodeRule>;
 
 // A load case of a sheet as its plain numbers.
 pub type Numbers = CaseNumbers<SheetRule>;
@@ -33,8 +31,8 @@ fn rule_named(text: &[u8]) -> Option<SheetRule>
     ensures { result ≡ rule_named text.now }
 {
     match text {
-        b"T" => Some(EitherRule::First(TableRule)),
-        b"E" => Some(EitherRule::Second(EurocodeRule)),
+        b"T" => Some(Either::Left(TableRule)),
+        b"E" => Some(Either::Right(EurocodeRule)),
         _ => None,
     }
 }
@@ -43,10 +41,7 @@ fn rule_named(text: &[u8]) -> Option<SheetRule>
 fn site_field(text: &[u8]) -> Option<(Site, &[u8])>
     ensures { option_map (λ p. (p.0, p.1.now)) result ≡ site_field text.now }
 {
-    let (field, more) = split_first(text, b',');
-    let site = site_named(field)?;
-    let rest = more?;
-    Some((site, rest))
+    parsed_field(text, site_named)
 }
 
 // A case line by its form alone: its number, and the numbers of the case.
@@ -87,14 +82,9 @@ fn making_a_case(numbers: Numbers) -> Result<Numbers, Fault>
 pub(crate) fn case_line(text: &[u8], n: usize) -> Result<Numbers, Fault>
     ensures { result ≡ case_line n text.now }
 {
-    let (number, numbers) = case_form(text).ok_or(sheet_fault(Refusal::ValueLine))?;
+    let (number, numbers) = case_form(text).ok_or(Layer::Sheet.refuses(Refusal::ValueLine))?;
     if number as usize != n {
-        return Err(Fault {
-            refusal: Refusal::OutOfRange,
-            layer: Layer::Sheet,
-            line: 0,
-            field: 1,
-        });
+        return Err(Fault::new(Refusal::OutOfRange, Layer::Sheet, 1));
     }
     at_field(making_a_case(numbers), 1)
 }

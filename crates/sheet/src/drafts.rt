@@ -1,48 +1,32 @@
 ghost use Rattle.std.specs.Prelude.{◌≡◌, min, [], length};
-ghost use Rattle.bearing.specs.declared.compound.Either.TheVariants.{Second};
+ghost use Rattle.either.specs.declared.Either.TheVariants.{Right};
 ghost use Rattle.bearing.specs.Compound.{group_of};
 ghost use Rattle.kinds.specs.Pendulums.{pendulum_of};
-ghost use Rattle.listing.specs.Lists.{items, capacity};
+ghost use Rattle.listing.specs.Lists.{with_items};
 ghost use Rattle.bearing.specs.Refusals.{with_ok};
-ghost use Rattle.sheet.specs.Reading.{read_sheet, rows_read, cases_read, AllMade};
-ghost use Rattle.sheet.specs.Hanging.{hung, weight_read};
+ghost use Rattle.sheet.specs.Reading.{read_sheet, cases_read, AllMade};
+ghost use Rattle.sheet.specs.Hanging.{hung};
 
 use crate::caselines::Numbers;
 use crate::reading::read;
 use crate::rowlines::Row;
-use bearing::{Either, Fault, Group};
+use bearing::{Fault, Group};
 use bridge::Draft;
+use either::Either;
 use kinds::Pendulum;
 use listing::Listing;
-use loading::Weight;
-
-// A sheet that was read as a draft: how many rows hang, or why the sheet is refused. Where it is refused, no row
-// hangs on the draft and its weight is the least.
-#[derive(Drop)]
-pub struct SheetDraft<'a> {
-    pub draft: Draft<'a, Row>,
-    pub result: Result<usize, Fault>,
-}
 
 // What a place for a row holds before one is hung there: the least pendulum.
 pub fn spare_row() -> Row
-    ensures { result ≡ group_of 1 (Second (pendulum_of 10 10 200)) }
+    ensures { result ≡ group_of 1 (Right (pendulum_of 10 10 200)) }
 {
     let pendulum = Pendulum::new(10, 10, 200).unwrap();
-    Group::new(1, Either::Second(pendulum)).unwrap()
-}
-
-// The least weight of a deck, 1 kN.
-fn least_weight() -> Weight
-    ensures { result.kn ≡ 1 }
-{
-    Weight::new(1).unwrap()
+    Group::new(1, Either::Right(pendulum)).unwrap()
 }
 
 // Hangs rows in their order.
 fn hang_rows(draft: &mut Draft<'_, Row>, rows: &[Row])
-    ensures list { items draft.new.rows ≡ hung (capacity draft.old.rows) (items draft.old.rows) rows.now }
-    ensures places { capacity draft.new.rows ≡ capacity draft.old.rows }
+    ensures rows { draft.new.rows ≡ with_items draft.old.rows (hung draft.old.rows.capacity draft.old.rows.items rows.now) }
     ensures weight { draft.new.weight ≡ draft.old.weight }
 {
     for row in rows {
@@ -51,36 +35,23 @@ fn hang_rows(draft: &mut Draft<'_, Row>, rows: &[Row])
 }
 
 // Reads a sheet as a draft: the deck's weight, with the sheet's rows hung in their order in the places lent, and the
-// load cases in a list, which is emptied first.
+// load cases in a list, which is emptied first. Where the sheet is refused, there is no draft.
 pub fn read_draft<'a>(
     sheet: &[u8],
     places: &'a mut [Row],
     cases: &mut Listing<'_, Numbers, 16>,
-) -> SheetDraft<'a>
-    ensures result { result.result ≡ with_ok (read_sheet (min 64 (length places.old)) (capacity cases.old) sheet.now) (λ c. length c.rows) }
-    ensures weight { result.draft.weight.kn ≡ weight_read (read_sheet (min 64 (length places.old)) (capacity cases.old) sheet.now) }
-    ensures hung { items result.draft.rows ≡ hung (min 64 (length places.old)) [] (rows_read (read_sheet (min 64 (length places.old)) (capacity cases.old) sheet.now)) }
-    ensures rows { items result.draft.rows ≡ rows_read (read_sheet (min 64 (length places.old)) (capacity cases.old) sheet.now) }
-    ensures rowplaces { capacity result.draft.rows ≡ min 64 (length places.old) }
-    ensures cases { items cases.new ≡ cases_read (read_sheet (min 64 (length places.old)) (capacity cases.old) sheet.now) }
-    ensures caseplaces { capacity cases.new ≡ capacity cases.old }
-    ensures made { AllMade (items cases.new) }
+) -> Result<Draft<'a, Row>, Fault>
+    ensures weight { with_ok result (λ d. d.weight.kn) ≡ with_ok (read_sheet (min 64 (length places.old)) cases.old.capacity sheet.now) (λ c. c.weight) }
+    ensures hung { with_ok result (λ d. d.rows.items) ≡ with_ok (read_sheet (min 64 (length places.old)) cases.old.capacity sheet.now) (λ c. hung (min 64 (length places.old)) [] c.rows) }
+    ensures rows { with_ok result (λ d. d.rows) ≡ with_ok (read_sheet (min 64 (length places.old)) cases.old.capacity sheet.now) (λ c. record { items = c.rows; capacity = min 64 (length places.old) }) }
+    ensures cases { cases.new ≡ with_items cases.old (cases_read (read_sheet (min 64 (length places.old)) cases.old.capacity sheet.now)) }
+    ensures made { AllMade cases.new.items }
 {
     let mut scratch = [spare_row(); 64];
     let most = places.len().min(64);
     let mut rows = Listing::new(&mut scratch[..most]);
-    match read(sheet, &mut rows, cases) {
-        Ok(weight) => {
-            let mut draft = Draft::begin(weight, places);
-            hang_rows(&mut draft, rows.as_slice());
-            SheetDraft {
-                draft,
-                result: Ok(rows.len()),
-            }
-        }
-        Err(fault) => SheetDraft {
-            draft: Draft::begin(least_weight(), places),
-            result: Err(fault),
-        },
-    }
+    let weight = read(sheet, &mut rows, cases)?;
+    let mut draft = Draft::begin(weight, places);
+    hang_rows(&mut draft, rows.as_slice());
+    Ok(draft)
 }

@@ -1,32 +1,24 @@
-ghost use Rattle.std.specs.Prelude.{◌≡◌, length};
-ghost use Rattle.bearing.specs.Refusals.{on_line, with_ok};
-ghost use Rattle.listing.specs.Lists.{items, capacity};
-ghost use Rattle.sheet.specs.Reading.{weight_at_end};
-ghost use Rattle.sheet.specs.Machine.{standing, state_of, named, cases_named, weighed, kept, step, after, answer};
+ghost use Rattle.std.specs.Prelude.{◌≡◌};
+ghost use Rattle.bearing.specs.Refusals.{with_ok};
+ghost use Rattle.listing.specs.Lists.{with_items};
+ghost use Rattle.sheet.specs.Reading.{weight_at_end, ended_with};
+ghost use Rattle.sheet.specs.Machine.{standing, state_of, named_as, weighed, kept, step, after, answer};
 
 use crate::caselines::{Numbers, case_line};
 use crate::numbers::number;
-use crate::parts::is_text;
-use crate::rowlines::{Row, lead_row, pendulum_row, sheet_fault};
-use bearing::{Fault, Refusal, on_line};
+use crate::rowlines::{Row, lead_row, pendulum_row};
+use bearing::{Fault, Layer, Refusal};
 use listing::Listing;
 use loading::Weight;
 
-// Where the reader stands: which line may come next.
-#[derive(Clone, Copy, PartialEq, Eq, Debug)]
-pub enum Stage {
+// A machine that takes a sheet line by line: which line may come next, and the weight once it is read.
+#[derive(Clone, Copy)]
+pub enum Reader {
     WeightNames,
     WeightValue,
-    RowNames,
-    Rows,
-    Cases,
-}
-
-// A machine that takes a sheet line by line.
-#[derive(Clone, Copy)]
-pub struct Reader {
-    pub(crate) stage: Stage,
-    pub(crate) weight: Option<Weight>,
+    RowNames(Weight),
+    Rows(Weight),
+    Cases(Weight),
 }
 
 // One element more in a list, where it is accepted and a place is free.
@@ -34,14 +26,10 @@ fn keep<T: Copy, const MAX: usize>(
     list: &mut Listing<'_, T, MAX>,
     x: Result<T, Fault>,
 ) -> Result<(), Fault>
-    ensures result { result ≡ answer (kept (capacity list.old) (items list.old) x) }
-    ensures list { items list.new ≡ after (kept (capacity list.old) (items list.old) x) (items list.old) }
-    ensures places { capacity list.new ≡ capacity list.old }
+    ensures result { result ≡ answer (kept list.old.capacity list.old.items x) }
+    ensures list { list.new ≡ with_items list.old (after (kept list.old.capacity list.old.items x) list.old.items) }
 {
-    match x {
-        Ok(x) => list.push(x),
-        Err(e) => Err(e),
-    }
+    list.push(x?)
 }
 
 impl Reader {
@@ -49,34 +37,21 @@ impl Reader {
         ensures result { result ≡ answer (weighed (standing self.old) line.now) }
         ensures at { standing self.new ≡ after (weighed (standing self.old) line.now) (standing self.old) }
     {
-        let kn = number(line).ok_or(sheet_fault(Refusal::ValueLine))?;
-        let weight = Weight::new(kn)?;
-        self.weight = Some(weight);
-        self.stage = Stage::RowNames;
+        let kn = number(line).ok_or(Layer::Sheet.refuses(Refusal::ValueLine))?;
+        *self = Reader::RowNames(Weight::new(kn)?);
         Ok(())
     }
 
     // A names line is the text itself, and then the reader goes on.
-    fn name(&mut self, line: &[u8], text: &[u8], next: Stage) -> Result<(), Fault>
-        ensures result { result ≡ answer (named text.now next (standing self.old) line.now) }
-        ensures at { standing self.new ≡ after (named text.now next (standing self.old) line.now) (standing self.old) }
+    fn name(&mut self, line: &[u8], text: &[u8], next: Reader) -> Result<(), Fault>
+        ensures result { result ≡ answer (named_as text.now (standing next) line.now) }
+        ensures at { standing self.new ≡ after (named_as text.now (standing next) line.now) (standing self.old) }
     {
-        if !is_text(line, text) {
-            return Err(sheet_fault(Refusal::NamesLine));
+        if line != text {
+            return Err(Layer::Sheet.refuses(Refusal::NamesLine));
         }
-        self.stage = next;
+        *self = next;
         Ok(())
-    }
-
-    // The third names line, which may stand only after a row.
-    fn name_cases(&mut self, line: &[u8], rows: usize) -> Result<(), Fault>
-        ensures result { result ≡ answer (cases_named rows (standing self.old) line.now) }
-        ensures at { standing self.new ≡ after (cases_named rows (standing self.old) line.now) (standing self.old) }
-    {
-        if rows == 0 {
-            return Err(sheet_fault(Refusal::NamesLine));
-        }
-        self.name(line, b"case,accel,site,slo,shi,klo,khi,rule", Stage::Cases)
     }
 
     // Takes the next line. What it may be depends on where the reader stands.
@@ -86,27 +61,32 @@ impl Reader {
         rows: &mut Listing<'_, Row, 64>,
         cases: &mut Listing<'_, Numbers, 16>,
     ) -> Result<(), Fault>
-        ensures result { result ≡ answer (step (capacity rows.old) (capacity cases.old) (state_of self.old (items rows.old) (items cases.old)) line.now) }
-        ensures state { state_of self.new (items rows.new) (items cases.new) ≡ after (step (capacity rows.old) (capacity cases.old) (state_of self.old (items rows.old) (items cases.old)) line.now) (state_of self.old (items rows.old) (items cases.old)) }
-        ensures rowplaces { capacity rows.new ≡ capacity rows.old }
-        ensures caseplaces { capacity cases.new ≡ capacity cases.old }
+        ensures result { result ≡ answer (step rows.old.capacity cases.old.capacity (state_of self.old rows.old.items cases.old.items) line.now) }
+        ensures state { state_of self.new rows.new.items cases.new.items ≡ after (step rows.old.capacity cases.old.capacity (state_of self.old rows.old.items cases.old.items) line.now) (state_of self.old rows.old.items cases.old.items) }
+        ensures rowplaces { rows.new.capacity ≡ rows.old.capacity }
+        ensures caseplaces { cases.new.capacity ≡ cases.old.capacity }
     {
-        match (self.stage, line) {
-            (Stage::WeightNames, b"weight") => {
-                self.stage = Stage::WeightValue;
-                Ok(())
+        match (*self, line) {
+            (Reader::WeightNames, _) => self.name(line, b"weight", Reader::WeightValue),
+            (Reader::WeightValue, _) => self.weigh(line),
+            (Reader::RowNames(weight), _) => {
+                self.name(line, b"kind,count,p1,p2,p3,p4,p5", Reader::Rows(weight))
             }
-            (Stage::WeightNames, _) => Err(sheet_fault(Refusal::NamesLine)),
-            (Stage::WeightValue, _) => self.weigh(line),
-            (Stage::RowNames, _) => self.name(line, b"kind,count,p1,p2,p3,p4,p5", Stage::Rows),
-            (Stage::Rows, [b'c', b'a', b's', b'e', ..]) => self.name_cases(line, rows.len()),
-            (Stage::Rows, [kind, b',', rest @ ..]) => match *kind as char {
+            // the third names line may stand only after a row
+            (Reader::Rows(weight), [b'c', b'a', b's', b'e', ..]) if rows.len() > 0 => {
+                let text = b"case,accel,site,slo,shi,klo,khi,rule";
+                self.name(line, text, Reader::Cases(weight))
+            }
+            (Reader::Rows(_), [b'c', b'a', b's', b'e', ..]) => {
+                Err(Layer::Sheet.refuses(Refusal::NamesLine))
+            }
+            (Reader::Rows(_), [kind, b',', rest @ ..]) => match *kind as char {
                 'L' => keep(rows, lead_row(rest)),
                 'P' => keep(rows, pendulum_row(rest)),
-                _ => Err(sheet_fault(Refusal::ValueLine)),
+                _ => Err(Layer::Sheet.refuses(Refusal::ValueLine)),
             },
-            (Stage::Rows, _) => Err(sheet_fault(Refusal::ValueLine)),
-            (Stage::Cases, _) => {
+            (Reader::Rows(_), _) => Err(Layer::Sheet.refuses(Refusal::ValueLine)),
+            (Reader::Cases(_), _) => {
                 let n = cases.len() + 1;
                 keep(cases, case_line(line, n))
             }
@@ -117,21 +97,19 @@ impl Reader {
     fn weight_at_end(&self, cases: usize) -> Result<Weight, Fault>
         ensures { with_ok result (λ w. w.kn) ≡ weight_at_end (standing self.now).stage (standing self.now).weight cases }
     {
-        match (self.stage, self.weight) {
-            (Stage::Cases, Some(weight)) => {
-                if cases == 0 {
-                    return Err(sheet_fault(Refusal::NamesLine));
-                }
-                Ok(weight)
-            }
-            _ => Err(sheet_fault(Refusal::NamesLine)),
+        match *self {
+            Reader::Cases(weight) if cases > 0 => Ok(weight),
+            _ => Err(Layer::Sheet.refuses(Refusal::NamesLine)),
         }
     }
 
-    // The weight of a sheet that ends before a line.
-    pub(crate) fn finish(&self, line: u16, cases: usize) -> Result<Weight, Fault>
-        ensures { with_ok result (λ w. w.kn) ≡ on_line line (weight_at_end (standing self.now).stage (standing self.now).weight cases) }
+    // The weight of a sheet by what stands after its last line end: it would be a line without an end.
+    pub(crate) fn end(&self, part: &[u8], cases: usize) -> Result<Weight, Fault>
+        ensures { with_ok result (λ w. w.kn) ≡ ended_with part.now (standing self.now) cases }
     {
-        on_line(self.weight_at_end(cases), line)
+        if !part.is_empty() {
+            return Err(Layer::Sheet.refuses(Refusal::ValueLine));
+        }
+        self.weight_at_end(cases)
     }
 }

@@ -1,7 +1,8 @@
 ghost use Rattle.std.specs.Prelude.{◌≡◌, ◌≤◌, length};
 ghost use Rattle.std.specs.Option.{option_map};
-ghost use Rattle.sheet.specs.Parts.{fields};
-ghost use Rattle.sheet.specs.Numbers.{digits_from, parsed, number_field, sized};
+ghost use Rattle.std.specs.Fn.{FnOnceReturnsAt};
+ghost use Rattle.sheet.specs.Parts.{first, fields};
+ghost use Rattle.sheet.specs.Numbers.{digits_from, parsed, field_then, number_field, sized};
 
 use crate::parts::split_first;
 
@@ -36,14 +37,25 @@ pub fn number(field: &[u8]) -> Option<u32>
     }
 }
 
+// What a field holds, a comma, and the rest of the line.
+pub(crate) fn parsed_field<T: Drop, P: FnOnce(&[u8]) -> Option<T>>(
+    text: &[u8],
+    parse: P,
+) -> Option<(T, &[u8])>
+    requires { P.IsAlwaysCallable parse }
+    ensures { (held : _) × FnOnceReturnsAt P.FnOnce parse (first 44 text.now) held × (option_map (λ p. (p.0, p.1.now)) result ≡ field_then held text.now) }
+{
+    let (field, more) = split_first(text, b',');
+    let held = parse(field)?;
+    let rest = more?;
+    Some((held, rest))
+}
+
 // A number, a comma, and the rest of the line.
 pub(crate) fn number_field(text: &[u8]) -> Option<(u32, &[u8])>
     ensures { option_map (λ p. (p.0, p.1.now)) result ≡ number_field text.now }
 {
-    let (field, more) = split_first(text, b',');
-    let n = number(field)?;
-    let rest = more?;
-    Some((n, rest))
+    parsed_field(text, number)
 }
 
 // The numbers of a line of exactly `N` fields.
@@ -52,12 +64,9 @@ pub(crate) fn numbers<const N: usize>(line: &[u8]) -> Option<[u32; N]>
 {
     let mut out = [0; N];
     let mut left = Some(line);
-    for i in 0..N {
-        let Some(text) = left else {
-            return None;
-        };
-        let (field, next) = split_first(text, b',');
-        out[i] = number(field)?;
+    for n in out.iter_mut() {
+        let (field, next) = split_first(left?, b',');
+        *n = number(field)?;
         left = next;
     }
     match left {

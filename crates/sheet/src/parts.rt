@@ -1,17 +1,12 @@
 ghost use Rattle.std.specs.Prelude.{◌≡◌, ◌≤◌, length};
 ghost use Rattle.std.specs.Option.{option_map};
-ghost use Rattle.sheet.specs.Parts.{before, first, rest, is_text};
+ghost use Rattle.sheet.specs.Parts.{before, first, rest};
 
 // How many bytes of `text` stand before the first `mark`.
 fn cut(text: &[u8], mark: u8) -> usize
     ensures { (result ≡ before mark text.now) × (result ≤ length text.now) }
 {
-    for (i, x) in text.iter().enumerate() {
-        if *x == mark {
-            return i;
-        }
-    }
-    text.len()
+    text.iter().position(|x| *x == mark).unwrap_or(text.len())
 }
 
 // The first part, and what follows the first mark, if there is one.
@@ -26,11 +21,4 @@ pub fn split_first(text: &[u8], mark: u8) -> (&[u8], Option<&[u8]>)
     } else {
         (first, None)
     }
-}
-
-// Whether a line is this text.
-pub(crate) fn is_text(line: &[u8], text: &[u8]) -> bool
-    ensures { result ≡ is_text text.now line.now }
-{
-    line == text
 }

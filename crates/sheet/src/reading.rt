@@ -1,14 +1,14 @@
 ghost use Rattle.std.specs.Prelude.{◌≡◌, ◌≤◌, length};
-ghost use Rattle.listing.specs.Lists.{items, capacity};
 ghost use Rattle.bearing.specs.Refusals.{with_ok};
+ghost use Rattle.listing.specs.Lists.{with_items};
 ghost use Rattle.sheet.specs.Parts.{parts};
 ghost use Rattle.sheet.specs.Reading.{begun_with, read_parts, read_sheet, rows_read, cases_read, AllMade};
 ghost use Rattle.sheet.specs.Text.{TextLaw};
 
 use crate::caselines::Numbers;
-use crate::machine::{Reader, Stage};
+use crate::machine::Reader;
 use crate::parts::split_first;
-use crate::rowlines::{Row, sheet_fault};
+use crate::rowlines::Row;
 use bearing::{Fault, Layer, Refusal, on_line};
 use listing::Listing;
 use loading::Weight;
@@ -20,37 +20,22 @@ fn read_lines(
     cases: &mut Listing<'_, Numbers, 16>,
 ) -> Result<Weight, Fault>
     requires { length sheet.now ≤ 16384 }
-    ensures content { with_ok result (λ w. record { weight = w.kn; rows = items rows.new; cases = items cases.new }) ≡ read_parts (capacity rows.old) (capacity cases.old) 1 (begun_with (items rows.old) (items cases.old)) (parts 10 sheet.now) }
-    ensures rowplaces { capacity rows.new ≡ capacity rows.old }
-    ensures caseplaces { capacity cases.new ≡ capacity cases.old }
+    ensures content { with_ok result (λ w. record { weight = w.kn; rows = rows.new.items; cases = cases.new.items }) ≡ read_parts rows.old.capacity cases.old.capacity 1 (begun_with rows.old.items cases.old.items) (parts 10 sheet.now) }
+    ensures rowplaces { rows.new.capacity ≡ rows.old.capacity }
+    ensures caseplaces { cases.new.capacity ≡ cases.old.capacity }
 {
-    let mut reader = Reader {
-        stage: Stage::WeightNames,
-        weight: None,
-    };
+    let mut reader = Reader::WeightNames;
     let mut left = sheet;
-    let mut k: u16 = 1;
-    loop {
+    // so many bytes have at most one line end each
+    for k in 1..=16_385u16 {
         let (line, next) = split_first(left, b'\n');
-        match next {
-            None => {
-                if line.len() == 0 {
-                    return reader.finish(k, cases.len());
-                }
-                return Err(Fault {
-                    refusal: Refusal::ValueLine,
-                    layer: Layer::Sheet,
-                    line: k,
-                    field: 0,
-                });
-            }
-            Some(more) => {
-                on_line(reader.take(line, rows, cases), k)?;
-                left = more;
-                k += 1;
-            }
-        }
+        let Some(more) = next else {
+            return on_line(reader.end(line, cases.len()), k);
+        };
+        on_line(reader.take(line, rows, cases), k)?;
+        left = more;
     }
+    unreachable!()
 }
 
 // Reads a sheet: the deck's weight, and its rows and load cases into two lists, which are emptied first and stay
@@ -60,18 +45,16 @@ pub fn read(
     rows: &mut Listing<'_, Row, 64>,
     cases: &mut Listing<'_, Numbers, 16>,
 ) -> Result<Weight, Fault>
-    ensures weight { with_ok result (λ w. w.kn) ≡ with_ok (read_sheet (capacity rows.old) (capacity cases.old) sheet.now) (λ c. c.weight) }
-    ensures rows { items rows.new ≡ rows_read (read_sheet (capacity rows.old) (capacity cases.old) sheet.now) }
-    ensures cases { items cases.new ≡ cases_read (read_sheet (capacity rows.old) (capacity cases.old) sheet.now) }
-    ensures rowplaces { capacity rows.new ≡ capacity rows.old }
-    ensures caseplaces { capacity cases.new ≡ capacity cases.old }
-    ensures made { AllMade (items cases.new) }
-    ensures text { TextLaw (capacity rows.old) (capacity cases.old) sheet.now }
+    ensures weight { with_ok result (λ w. w.kn) ≡ with_ok (read_sheet rows.old.capacity cases.old.capacity sheet.now) (λ c. c.weight) }
+    ensures rows { rows.new ≡ with_items rows.old (rows_read (read_sheet rows.old.capacity cases.old.capacity sheet.now)) }
+    ensures cases { cases.new ≡ with_items cases.old (cases_read (read_sheet rows.old.capacity cases.old.capacity sheet.now)) }
+    ensures made { AllMade cases.new.items }
+    ensures text { TextLaw rows.old.capacity cases.old.capacity sheet.now }
 {
     rows.clear();
     cases.clear();
     if sheet.len() > 16_384 {
-        return Err(sheet_fault(Refusal::SheetTooLong));
+        return Err(Layer::Sheet.refuses(Refusal::SheetTooLong));
     }
     let weight = read_lines(sheet, rows, cases);
     if weight.is_err() {

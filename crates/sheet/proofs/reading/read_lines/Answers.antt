@@ -1,59 +1,56 @@
-use Rattle.std.proofs.Common.{◌≡◌, length, Some, None, Err, sym, ap, ◌∙◌, ap₂, arith}
+use Rattle.std.proofs.Common.{◌≡◌, Some, None, Err, sym, ap, ◌∙◌, ap₂, arith}
 use Rattle.std.specs.Option.{option_map}
 use Rattle.std.proofs.lemmas.Result.{err_from_is_err_and}
 use Rattle.bearing.specs.Refusals.{on_line, with_ok}
 use Rattle.loading.specs.declared.weighing.Weight.{Weight}
-use Rattle.listing.specs.Lists.{items, capacity}
 use Rattle.sheet.specs.Machine.{state_of, step, after, answer}
-use Rattle.sheet.specs.Parts.{rest, first}
-use Rattle.sheet.specs.Reading.{Content}
+use Rattle.sheet.specs.Parts.{rest}
+use Rattle.sheet.specs.Reading.{Content, ended_with, last_part}
 use Rattle.sheet.proofs.Cuts.{shorter}
-use Rattle.sheet.proofs.Turns.{run_none, run_ok, run_err, ok_at, err_at, last_some}
+use Rattle.sheet.proofs.Turns.{run_none, run_ok, run_err, ok_at, err_at, last_is}
 use Rattle.sheet.proofs.reading.read_lines.Goals as goal
 
-pub returns-in-None : goal.returns-in-None
-returns-in-None c =
-    let st = state_of c.loop-reader.reader (items c.loop-reader.rows) (items c.loop-reader.cases) in
-    let e : None ≡ rest 10 c.loop-reader.left.now = sym (ap (option_map (λ x. x.now)) c.in-None.is) ∙ c.split_first.ensures.more in
-    let f : length (first 10 c.loop-reader.left.now) ≡ 0 → ⊥ = λ z. c.if-line-eq0.false (ap length c.split_first.ensures.first ∙ z) in
-    record {
-      content = sym (sym c.loop-reader.invariant.0 ∙ run_none (capacity c.args.rows.now) (capacity c.args.cases.now) c.loop-reader.k st c.loop-reader.left.now e ∙ last_some c.loop-reader.k st (first 10 c.loop-reader.left.now) f);
-      rowplaces = c.loop-reader.invariant.1;
-      caseplaces = c.loop-reader.invariant.2;
-    }
-
-pub returns-in_err-on_line-in-Some : goal.returns-in_err-on_line-in-Some
-returns-in_err-on_line-in-Some c =
-    let st = state_of c.loop-reader.reader (items c.loop-reader.rows) (items c.loop-reader.cases) in
-    let e : Some c.in-Some.more.now ≡ rest 10 c.loop-reader.left.now = sym (ap (option_map (λ x. x.now)) c.in-Some.is) ∙ c.split_first.ensures.more in
-    let same : step (capacity c.loop-reader.rows) (capacity c.loop-reader.cases) st c.split_first.result.0.now ≡ step (capacity c.args.rows.now) (capacity c.args.cases.now) st c.split_first.result.0.now =
-    ap₂ (λ a b. step a b st c.split_first.result.0.now) c.loop-reader.invariant.1 c.loop-reader.invariant.2 in
+pub returns-in_err-on_line-clause-content : goal.returns-in_err-on_line-clause-content
+returns-in_err-on_line-clause-content c =
+    let st = state_of c.loop-k.reader c.loop-k.rows.items c.loop-k.cases.items in
+    let places = c.args.rows.now.capacity in
+    let seats = c.args.cases.now.capacity in
+    let line = c.split_first.result.0.now in
+    let e : Some c.in-Some.more.now ≡ rest 10 c.loop-k.left.now = sym (ap (option_map (λ x. x.now)) c.in-Some.is) ∙ c.split_first.ensures.more in
+    let same : step c.loop-k.rows.capacity c.loop-k.cases.capacity st line ≡ step places seats st line =
+    ap₂ (λ a b. step a b st line) c.loop-k.invariant.1 c.loop-k.invariant.2 in
     let p = err_from_is_err_and c.from_residual.result c.from_residual.ensures.1 in
-    let z = err_at c.loop-reader.k (step (capacity c.args.rows.now) (capacity c.args.cases.now) st c.split_first.result.0.now) c.in_err-on_line-in-Some.field-0.0
-    (sym (c.on_line.ensures ∙ ap (on_line c.loop-reader.k) (c.take.ensures.result ∙ ap answer same)) ∙ c.in_err-on_line-in-Some.was) in
-    let q = sym c.loop-reader.invariant.0 ∙ run_err (capacity c.args.rows.now) (capacity c.args.cases.now) c.loop-reader.k st z.0 c.loop-reader.left.now c.split_first.result.0.now c.in-Some.more.now e c.split_first.ensures.first z.1 in
-    record {
-      content = ap (λ r. with_ok {T = Content} r (λ (w : Weight). record { weight = w.kn; rows = items c.take.new.rows; cases = items c.take.new.cases })) (p.1 ∙ ap Err (p.2 ∙ z.2)) ∙ sym q;
-      rowplaces = c.take.ensures.rowplaces ∙ c.loop-reader.invariant.1;
-      caseplaces = c.take.ensures.caseplaces ∙ c.loop-reader.invariant.2;
-    }
+    let z = err_at c.loop-k.k (step places seats st line) c.in_err-on_line.field-0.0
+    (sym (c.on_line-in-loop-k.ensures ∙ ap (on_line c.loop-k.k) (c.take.ensures.result ∙ ap answer same)) ∙ c.in_err-on_line.was) in
+    let q = sym c.loop-k.invariant.0 ∙ run_err places seats c.loop-k.k st z.0 c.loop-k.left.now line c.in-Some.more.now e c.split_first.ensures.first z.1 in
+    ap (λ r. with_ok {T = Content} r (λ (w : Weight). record { weight = w.kn; rows = c.take.new.rows.items; cases = c.take.new.cases.items })) (p.1 ∙ ap Err (p.2 ∙ z.2)) ∙ sym q
 
-pub loop-reader-smaller : goal.loop-reader-smaller
-loop-reader-smaller c =
-    shorter 10 c.loop-reader.left.now c.in-Some.more.now (sym (ap (option_map (λ x. x.now)) c.in-Some.is) ∙ c.split_first.ensures.more)
-
-pub loop-reader-preserved : goal.loop-reader-preserved
-loop-reader-preserved c =
-    let st = state_of c.loop-reader.reader (items c.loop-reader.rows) (items c.loop-reader.cases) in
-    let next = state_of c.take.new.self (items c.take.new.rows) (items c.take.new.cases) in
-    let e : Some c.in-Some.more.now ≡ rest 10 c.loop-reader.left.now = sym (ap (option_map (λ x. x.now)) c.in-Some.is) ∙ c.split_first.ensures.more in
-    let same : step (capacity c.loop-reader.rows) (capacity c.loop-reader.cases) st c.split_first.result.0.now ≡ step (capacity c.args.rows.now) (capacity c.args.cases.now) st c.split_first.result.0.now =
-    ap₂ (λ a b. step a b st c.split_first.result.0.now) c.loop-reader.invariant.1 c.loop-reader.invariant.2 in
-    let done = ok_at c.loop-reader.k st next (step (capacity c.args.rows.now) (capacity c.args.cases.now) st c.split_first.result.0.now) c.in_ok-on_line-in-Some.field-0
+pub loop-k-preserved : goal.loop-k-preserved
+loop-k-preserved c =
+    let st = state_of c.loop-k.reader c.loop-k.rows.items c.loop-k.cases.items in
+    let next = state_of c.take.new.self c.take.new.rows.items c.take.new.cases.items in
+    let places = c.args.rows.now.capacity in
+    let seats = c.args.cases.now.capacity in
+    let line = c.split_first.result.0.now in
+    let e : Some c.in-Some.more.now ≡ rest 10 c.loop-k.left.now = sym (ap (option_map (λ x. x.now)) c.in-Some.is) ∙ c.split_first.ensures.more in
+    let same : step c.loop-k.rows.capacity c.loop-k.cases.capacity st line ≡ step places seats st line =
+    ap₂ (λ a b. step a b st line) c.loop-k.invariant.1 c.loop-k.invariant.2 in
+    let done = ok_at c.loop-k.k st next (step places seats st line) c.in_ok-on_line.field-0
     (c.take.ensures.state ∙ ap (λ x. after x st) same)
-    (sym (c.on_line.ensures ∙ ap (on_line c.loop-reader.k) (c.take.ensures.result ∙ ap answer same)) ∙ c.in_ok-on_line-in-Some.was) in (
-      sym (run_ok (capacity c.args.rows.now) (capacity c.args.cases.now) c.loop-reader.k st next c.loop-reader.left.now c.split_first.result.0.now c.in-Some.more.now e c.split_first.ensures.first done) ∙ c.loop-reader.invariant.0,
-      c.take.ensures.rowplaces ∙ c.loop-reader.invariant.1,
-      c.take.ensures.caseplaces ∙ c.loop-reader.invariant.2,
-      omega (arith, c.loop-reader.invariant.3, shorter 10 c.loop-reader.left.now c.in-Some.more.now e),
+    (sym (c.on_line-in-loop-k.ensures ∙ ap (on_line c.loop-k.k) (c.take.ensures.result ∙ ap answer same)) ∙ c.in_ok-on_line.was) in (
+      sym (run_ok places seats c.loop-k.k st next c.loop-k.left.now line c.in-Some.more.now e c.split_first.ensures.first done) ∙ c.loop-k.invariant.0,
+      c.take.ensures.rowplaces ∙ c.loop-k.invariant.1,
+      c.take.ensures.caseplaces ∙ c.loop-k.invariant.2,
+      omega (arith, c.loop-k.invariant.3, shorter 10 c.loop-k.left.now c.in-Some.more.now e),
     )
+
+pub returns-in_default-clause-content : goal.returns-in_default-clause-content
+returns-in_default-clause-content c =
+    let st = state_of c.loop-k.reader c.loop-k.rows.items c.loop-k.cases.items in
+    let e : None ≡ rest 10 c.loop-k.left.now = sym (ap (option_map (λ x. x.now)) c.in_default.is) ∙ c.split_first.ensures.more in
+    let line = c.split_first.result.0.now in
+    ap (λ r. with_ok {T = Content} r (λ (w : Weight). record { weight = w.kn; rows = c.loop-k.rows.items; cases = c.loop-k.cases.items })) c.on_line.ensures
+    ∙ last_is c.loop-k.k st line c.end.result (c.end.ensures ∙ ap (ended_with line st.at) c.len.ensures.value)
+    ∙ ap (last_part c.loop-k.k st) c.split_first.ensures.first
+    ∙ sym (run_none c.args.rows.now.capacity c.args.cases.now.capacity c.loop-k.k st c.loop-k.left.now e)
+    ∙ c.loop-k.invariant.0
