@@ -1,5 +1,4 @@
 pub mod Bytes
-pub mod Lined
 pub mod Sizes
 pub mod Tells
 pub mod Turns

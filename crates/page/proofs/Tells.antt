@@ -2,13 +2,12 @@
 use Rattle.std.proofs.Common.{◌≡◌, ℕ, ◌+◌, ◌^◌, ◌<◌, ◌≤◌, Bool, true, false, List, [], ◌∷◌, ◌++◌, length, take, Some, None, codes, decimal, Option, sym, refl, ap, ◌∙◌, subst, arith}
 use Rattle.std.specs.Str.Parse.{AllDigits}
 use Rattle.std.proofs.lemmas.Fmt.{decimal_is_IsNumeral, decimal_nonempty, decimal_injective}
-use Rattle.std.proofs.lemmas.List.{append_assoc, append_cancel_left}
+use Rattle.std.proofs.lemmas.List.{append_assoc, append_cancel_left, take_at}
 use Rattle.std.proofs.lemmas.Str.Parse.{digit_from_value}
 use Rattle.bridge.specs.Outcomes.{Values, Outcome, Answered, Refused, outcome_number}
 use Rattle.page.specs.Text.{names_line, then_comma, shown, yes_or_no, values_text, case_line, end_line}
 use Rattle.page.specs.Runs.{lines_text, page_text, Fits}
 use Rattle.page.specs.Telling.{SizedDisplacement, SizedValues, Sized, AllSized, written_page, PageTells}
-use Rattle.page.proofs.Bytes.{text_back}
 use Rattle.page.proofs.Turns.{page_run_text}
 
 -- a text without the byte c
@@ -169,7 +168,7 @@ same_text os os' k l g h e =
 -- what is written of a page that fits is its text
 written_text : (old : List ℕ) (os : List Outcome) → Fits (length old) os → written_page old os ≡ page_text os
 written_text old os h =
-    ap (λ (p : List ℕ × ℕ). take p.1 p.0) (page_run_text old os h) ∙ text_back old _ (page_text os) (length (page_text os)) refl refl
+    ap (λ (p : List ℕ × ℕ). take p.1 p.0) (page_run_text old os h) ∙ take_at (page_text os) _ (length (page_text os)) refl
 
 pub page_tells : PageTells
 page_tells old old' os os' f f' g h e =

@@ -1,7 +1,7 @@
 -- A page line by line: what a caller with a loop needs of `run`.
-use Rattle.std.proofs.Common.{◌≡◌, ℕ, ◌+◌, ◌<◌, ◌≤◌, false, List, [], ◌∷◌, ◌++◌, map, length, get_or, drop, Ok, Err, Result, sym, refl, ap, ◌∙◌, add-zero, arith}
+use Rattle.std.proofs.Common.{◌≡◌, ℕ, ◌+◌, ◌<◌, ◌≤◌, false, List, [], ◌∷◌, ◌++◌, map, length, get_or, drop, Ok, Err, Result, sym, ap, ◌∙◌, add-zero, arith, rules}
 use Rattle.std.proofs.lemmas.List.{at_drop_more, at_drop_all, append_assoc, append-nil, length-append}
-use Rattle.std.proofs.lemmas.Bool.{cond-false, le-ltb, or_from}
+use Rattle.std.proofs.lemmas.Bool.{cond-false, le-ltb}
 use Rattle.bearing.specs.declared.fault.Fault.{Fault}
 use Rattle.bridge.specs.declared.replies.Answer.{Answer}
 use Rattle.bridge.specs.Outcomes.{Outcome, outcome}
@@ -9,7 +9,6 @@ use Rattle.page.specs.Text.{written, names_line, case_line, end_line, void_line}
 use Rattle.page.specs.Pages.{begun, begun_len, line_answer, closed, closed_len}
 use Rattle.page.specs.Runs.{if_taken, run, page_run, lines_text, page_text, Fits}
 use Rattle.page.proofs.Bytes.{written_more, length_written}
-use Rattle.page.proofs.Lined.{answer_taken}
 
 -- what an element counts as past the end of the answers
 abbrev pub past : Result Answer Fault
@@ -52,6 +51,11 @@ pub run_ended : (b : List ℕ) (at count i : ℕ) (rs : List (Result Answer Faul
     → ◌≡◌ {A = List ℕ × ℕ} (closed b at (end_line count), closed_len (length b) at (end_line count)) (run b at count (map outcome (drop i rs)))
 run_ended b at count i rs h = sym (at_drop_all (λ (l : List (Result Answer Fault)). run b at count (map outcome l)) rs i h)
 
+-- the answer to a line that has its place
+answer_taken : (size at count : ℕ) (text : List ℕ) → 51 ≤ size → count < 99 → at + length text + 7 ≤ size → line_answer size at count text ≡ Ok tt
+unfolding line_answer
+answer_taken size at count text l h f = search rules
+
 -- a page of which a text is written from the start, and all that follows fits
 pub run_text : (old text : List ℕ) (count : ℕ) (os : List Outcome) → 51 ≤ length old → count + length os ≤ 99 → length text + length (lines_text count os) + 7 ≤ length old
     → run (written old 0 text) (length text) count os ≡ text_run old (text ++ lines_text count os ++ end_line (count + length os))
@@ -68,8 +72,7 @@ run_text old text count (o ∷ os) l n f =
     let q : length (t ++ lines_text (count + 1) os) ≡ length t + length (lines_text (count + 1) os) = length-append t (lines_text (count + 1) os) in
     let s : length (written old 0 text) ≡ length old = length_written old text (omega arith) in
     let a : line_answer (length (written old 0 text)) (length text) count t ≡ Ok tt =
-    sym (answer_taken (length (written old 0 text)) (length text) count (length t) t false (omega arith) refl
-    (sym (or_from _ _ (le-ltb (length (written old 0 text)) 51 (omega arith)) (le-ltb (length (written old 0 text)) (length text + length t + 7) (omega arith)))) refl) in
+    answer_taken (length (written old 0 text)) (length text) count t (omega arith) (omega arith) (omega arith) in
     let m : length text + length t ≡ length (text ++ t) = sym (length-append text t) in
     let w : written (written old 0 text) (length text) t ≡ written old 0 (text ++ t) = written_more old 0 (length text) text t (omega arith) (omega arith) in
     ap (λ (x : Result (Unit {0}) Fault). if_taken x (run (written (written old 0 text) (length text) t) (length text + length t) (count + 1) os) (closed (written old 0 text) (length text) void_line, closed_len (length (written old 0 text)) (length text) void_line)) a

@@ -2,10 +2,10 @@
 
 #![tactic(auto)]
 
-mod digits;
 mod lines;
 mod paper;
 mod refused;
+mod texts;
 
 pub use paper::Page;
 pub use refused::write_refusal;

@@ -1,47 +1,29 @@
-ghost use Rattle.std.specs.Prelude.{◌≡◌, ◌+◌, ◌≤◌, length};
-ghost use Rattle.bearing.specs.Refusals.{plain_fault};
-ghost use Rattle.bearing.specs.declared.fault.Layer.TheVariants.{Sheet};
-ghost use Rattle.page.specs.Text.{written, refusal_page};
+ghost use Rattle.std.specs.Prelude.{◌≡◌, length};
+ghost use Rattle.page.specs.Text.{refusal_page};
 ghost use Rattle.page.specs.Pages.{refusal_answer, refusal_written};
 
-use crate::digits::{put, put_field, put_number, width};
+use crate::texts::{field, put};
+use arrayvec::ArrayString;
 use bearing::{Fault, Layer, Refusal};
 
-// A refusal of the page itself: of layer 3, with no line and no field.
-pub(crate) fn page_fault(refusal: Refusal) -> Fault
-    ensures { result ≡ plain_fault refusal Sheet }
-{
-    Fault {
-        refusal,
-        layer: Layer::Sheet,
-        line: 0,
-        field: 0,
-    }
-}
+// A refusal page of the largest numbers: the names line of 25 bytes, four numbers of 20 digits, three commas and the
+// line end.
+const LONGEST_PAGE: usize = 109;
 
-// How many bytes a refusal page takes.
-fn refusal_size(e: &Fault) -> usize
-    ensures { result ≡ length (refusal_page e.now) }
+// A refusal page.
+#[tactic(auto, unfolding(crate::specs::Text::refusal_names, crate::specs::Text::refusal_line))]
+fn refusal_page(e: &Fault) -> ArrayString<LONGEST_PAGE>
+    ensures { result.bytes ≡ refusal_page e.now }
 {
-    width(e.refusal.number() as u64)
-        + width(e.layer.number() as u64)
-        + width(e.line as u64)
-        + width(e.field as u64)
-        + 29
-}
-
-// Writes a refusal page from the start of the buffer.
-fn put_refusal(buffer: &mut [u8], e: &Fault) -> usize
-    requires { length (refusal_page e.now) ≤ length buffer.old }
-    ensures bytes { buffer.new ≡ written buffer.old 0 (refusal_page e.now) }
-    ensures place { result ≡ length (refusal_page e.now) }
-{
-    let names = put(buffer, 0, b"refused,layer,line,field\n");
-    let number = put_field(buffer, names, e.refusal.number() as u64);
-    let layer = put_field(buffer, number, e.layer.number() as u64);
-    let line = put_field(buffer, layer, e.line as u64);
-    let field = put_number(buffer, line, e.field as u64);
-    put(buffer, field, b"\n")
+    let mut page = ArrayString::new();
+    let mut digits = itoa::Buffer::new();
+    page.push_str("refused,layer,line,field\n");
+    page.push_str(&field(e.refusal.number() as u64));
+    page.push_str(&field(e.layer.number() as u64));
+    page.push_str(&field(e.line as u64));
+    page.push_str(digits.format(e.field));
+    page.push_str("\n");
+    page
 }
 
 // Writes what is shown in place of a page where a sheet was refused, and answers its length.
@@ -49,8 +31,9 @@ pub fn write_refusal(fault: &Fault, buffer: &mut [u8]) -> Result<usize, Fault>
     ensures result { result ≡ refusal_answer (length buffer.old) fault.now }
     ensures bytes { buffer.new ≡ refusal_written buffer.old fault.now }
 {
-    if buffer.len() < refusal_size(fault) {
-        return Err(page_fault(Refusal::PageFull));
+    let page = refusal_page(fault);
+    if buffer.len() < page.len() {
+        return Err(Layer::Sheet.refuses(Refusal::PageFull));
     }
-    Ok(put_refusal(buffer, fault))
+    Ok(put(buffer, 0, &page))
 }
