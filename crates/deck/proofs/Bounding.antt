@@ -1,18 +1,18 @@
 -- Every case line of an accepted sheet keeps the law of bounds. Assumes nothing.
 use Rattle.std.proofs.Common.{◌≡◌, ℕ, ◌≤◌, true, ◌&&◌, leb, List, [], ◌∷◌, length, Ok, ap, arith}
 use Rattle.std.proofs.lemmas.Bool.Decides.{nat_tests}
-use Rattle.bearing.specs.declared.compound.Either.{Either}
+use Rattle.either.specs.declared.Either.{Either}
+use Rattle.either.specs.Either.{either}
 use Rattle.kinds.specs.declared.lead.LeadRubber.{LeadRubber}
 use Rattle.kinds.specs.declared.sliding.Pendulum.{Pendulum}
 use Rattle.bearing.specs.Ranges.{between}
 use Rattle.bearing.specs.Laws.{Laws}
 use Rattle.kinds.specs.Leads.{lead_force, lead_energy}
 use Rattle.kinds.specs.Pendulums.{pendulum_force, pendulum_energy}
-use Rattle.bearing.specs.Compound.{by_kind}
-use Rattle.bearing.specs.Compounds.{by_kind_laws, group_laws}
+use Rattle.bearing.specs.Compounds.{either_laws, group_laws}
 use Rattle.kinds.specs.LeadsLemmas.{lead_laws}
 use Rattle.kinds.specs.PendulumsLemmas.{pendulum_laws}
-use Rattle.damping.specs.declared.either.EitherRule.TheVariants.{First, Second}
+use Rattle.either.specs.declared.Either.TheVariants.{Left, Right}
 use Rattle.damping.specs.Rule.{RuleLaws}
 use Rattle.damping.specs.Growth.{table_laws}
 use Rattle.damping.specs.Reduction.{eurocode_laws}
@@ -29,15 +29,15 @@ use Rattle.sheet.proofs.Accepted.{accepted}
 use Rattle.deck.specs.Whole.{row_force, row_energy, rule_says, case_outcome, outcomes}
 use Rattle.deck.specs.Lawful.{LineLaw, PageLaw}
 
-kind_laws : (b : Either LeadRubber Pendulum) → Laws (kind_force b) (by_kind lead_energy pendulum_energy b)
-kind_laws = by_kind_laws lead_force lead_energy pendulum_force pendulum_energy lead_laws pendulum_laws
+kind_laws : (b : Either LeadRubber Pendulum) → Laws (kind_force b) (either lead_energy pendulum_energy b)
+kind_laws = either_laws lead_force lead_energy pendulum_force pendulum_energy lead_laws pendulum_laws
 
 row_laws : (g : Row) → Laws (row_force g) (row_energy g)
 row_laws g = group_laws (kind_laws g.member) g.count
 
 rule_laws : (r : SheetRule) → RuleLaws (rule_says r)
-rule_laws (First x) = table_laws
-rule_laws (Second y) = eurocode_laws
+rule_laws (Left x) = table_laws
+rule_laws (Right y) = eurocode_laws
 
 -- what is known of numbers that make a case
 record Ordered (n : Numbers) : Type 0 where

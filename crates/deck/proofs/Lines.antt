@@ -6,7 +6,7 @@ use Rattle.bearing.specs.declared.fault.Fault.{Fault}
 use Rattle.bearing.specs.declared.fault.Refusal.TheVariants.{PageFull, TooManyLines}
 use Rattle.bearing.specs.declared.fault.Layer.TheVariants.{Sheet}
 use Rattle.bearing.specs.Refusals.{and_then, plain_fault, with_ok}
-use Rattle.damping.specs.declared.either.EitherRule.TheVariants.{First}
+use Rattle.either.specs.declared.Either.TheVariants.{Left}
 use Rattle.loading.specs.declared.loads.Site.TheVariants.{I}
 use Rattle.loading.specs.Making.{case_made}
 use Rattle.bridge.specs.Outcomes.{Outcome, Answered, Refused}
@@ -21,7 +21,7 @@ use Rattle.deck.specs.Whole.{case_outcome, outcomes, one_if_answered, answered, 
 
 -- what an element counts as past the end of the cases
 abbrev pub past : Numbers
-past = record { accel = 0; site = I; slo = 0; shi = 0; klo = 0; khi = 0; rule = First (record {}) }
+past = record { accel = 0; site = I; slo = 0; shi = 0; klo = 0; khi = 0; rule = Left (record {}) }
 
 -- a text that ends within the bytes does not change how many there are
 written_size : (b text : List ℕ) (at : ℕ) → at + length text ≤ length b → length (written b at text) ≡ length b

@@ -5,11 +5,11 @@ use Rattle.bearing.specs.Refusals.{and_then}
 use Rattle.bearing.specs.Laws.{Curve}
 use Rattle.kinds.specs.Leads.{lead_energy}
 use Rattle.kinds.specs.Pendulums.{pendulum_energy}
-use Rattle.bearing.specs.Compound.{by_kind, group_force, group_energy}
+use Rattle.either.specs.Either.{either}
+use Rattle.bearing.specs.Compound.{group_force, group_energy}
 use Rattle.damping.specs.Rule.{Says}
 use Rattle.damping.specs.Table.{table_says}
 use Rattle.damping.specs.Eurocode.{eurocode_says}
-use Rattle.damping.specs.Either.{by_rule}
 use Rattle.bridge.specs.Answers.{queried}
 use Rattle.bridge.specs.Outcomes.{Outcome, Answered, Refused, outcome_of}
 use Rattle.sheet.specs.RowLines.{Row, kind_force}
@@ -26,11 +26,11 @@ row_force = group_force kind_force
 
 -- the energy of a row, in newtons times tenths of a millimetre
 abbrev pub row_energy : Row → Curve
-row_energy = group_energy kind_force (by_kind lead_energy pendulum_energy)
+row_energy = group_energy kind_force (either lead_energy pendulum_energy)
 
 -- what the rule of a sheet says
 abbrev pub rule_says : SheetRule → Says
-rule_says = by_rule (λ _. table_says) (λ _. eurocode_says)
+rule_says = either (λ _. table_says) (λ _. eurocode_says)
 
 -- what a load case comes to, for these rows and this weight in kilonewtons
 abbrev pub case_outcome : List Row → ℕ → Numbers → Outcome

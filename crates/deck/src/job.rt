@@ -1,6 +1,5 @@
 ghost use Rattle.std.specs.Prelude.{◌≡◌, ◌+◌, length, Ok};
 ghost use Rattle.bearing.specs.Refusals.{and_then, with_ok};
-ghost use Rattle.listing.specs.Lists.{items};
 ghost use Rattle.loading.specs.Making.{case_made};
 ghost use Rattle.bridge.specs.Answers.{queried};
 ghost use Rattle.bridge.specs.Outcomes.{reported};
@@ -17,7 +16,7 @@ use bridge::{Answer, Bridge};
 use listing::Listing;
 use loading::Case;
 use page::{Page, write_refusal};
-use sheet::{Numbers, Row, SheetDraft, read_draft, spare_row};
+use sheet::{Numbers, Row, read_draft, spare_row};
 
 // More bytes than any page takes: its names line, 16 case lines of at most 40 bytes, and its last line.
 pub const PAGE_SPACE: usize = 1_024;
@@ -39,7 +38,7 @@ pub struct Job {
 
 // The load case of these numbers, asked of the bridge.
 fn ask(bridge: &Bridge<'_, Row>, numbers: Numbers) -> Result<Answer, Fault>
-    ensures { reported result ≡ and_then (case_made numbers) (queried row_force row_energy rule_says (items bridge.now.rows) bridge.now.weight.kn) }
+    ensures { reported result ≡ and_then (case_made numbers) (queried row_force row_energy rule_says bridge.now.rows.items bridge.now.weight.kn) }
 {
     let case = Case::new(numbers)?;
     bridge.query(&case)
@@ -53,17 +52,14 @@ fn write_case(
 ) -> Result<usize, Fault>
     requires { case_made numbers ≡ Ok numbers }
     ensures same { page.new.buffer.ghost_name ≡ page.old.buffer.ghost_name }
-    ensures result { result ≡ with_ok (line_answer (length page.old.buffer.now) page.old.len page.old.cases (case_line (page.old.cases + 1) (case_outcome (items bridge.now.rows) bridge.now.weight.kn numbers))) (λ _. one_if_answered (case_outcome (items bridge.now.rows) bridge.now.weight.kn numbers)) }
-    ensures bytes { page.new.buffer.now ≡ lined (with_ok result (λ _. tt)) page.old.buffer.now page.old.len (case_line (page.old.cases + 1) (case_outcome (items bridge.now.rows) bridge.now.weight.kn numbers)) }
-    ensures len { page.new.len ≡ lined_len (with_ok result (λ _. tt)) page.old.len (case_line (page.old.cases + 1) (case_outcome (items bridge.now.rows) bridge.now.weight.kn numbers)) }
+    ensures result { result ≡ with_ok (line_answer (length page.old.buffer.now) page.old.len page.old.cases (case_line (page.old.cases + 1) (case_outcome bridge.now.rows.items bridge.now.weight.kn numbers))) (λ _. one_if_answered (case_outcome bridge.now.rows.items bridge.now.weight.kn numbers)) }
+    ensures bytes { page.new.buffer.now ≡ lined (with_ok result (λ _. tt)) page.old.buffer.now page.old.len (case_line (page.old.cases + 1) (case_outcome bridge.now.rows.items bridge.now.weight.kn numbers)) }
+    ensures len { page.new.len ≡ lined_len (with_ok result (λ _. tt)) page.old.len (case_line (page.old.cases + 1) (case_outcome bridge.now.rows.items bridge.now.weight.kn numbers)) }
     ensures cases { page.new.cases ≡ lined_count (with_ok result (λ _. tt)) page.old.cases }
 {
     let answer = ask(bridge, numbers);
     page.line(&answer)?;
-    match answer {
-        Ok(_) => Ok(1),
-        Err(_) => Ok(0),
-    }
+    Ok(answer.is_ok() as usize)
 }
 
 // A page with a line for each load case, voided at the first line that is refused; answers how many bytes are
@@ -74,9 +70,9 @@ fn write_cases(
     buffer: &mut [u8],
 ) -> (usize, Result<usize, Fault>)
     requires { AllMade cases.now }
-    ensures bytes { buffer.new ≡ (page_run buffer.old (outcomes (items bridge.now.rows) bridge.now.weight.kn cases.now)).0 }
-    ensures written { result.0 ≡ (page_run buffer.old (outcomes (items bridge.now.rows) bridge.now.weight.kn cases.now)).1 }
-    ensures result { result.1 ≡ with_ok (lines_answer (length buffer.old) (begun_len (length buffer.old)) 0 (outcomes (items bridge.now.rows) bridge.now.weight.kn cases.now)) (λ _. answered (outcomes (items bridge.now.rows) bridge.now.weight.kn cases.now)) }
+    ensures bytes { buffer.new ≡ (page_run buffer.old (outcomes bridge.now.rows.items bridge.now.weight.kn cases.now)).0 }
+    ensures written { result.0 ≡ (page_run buffer.old (outcomes bridge.now.rows.items bridge.now.weight.kn cases.now)).1 }
+    ensures result { result.1 ≡ with_ok (lines_answer (length buffer.old) (begun_len (length buffer.old)) 0 (outcomes bridge.now.rows.items bridge.now.weight.kn cases.now)) (λ _. answered (outcomes bridge.now.rows.items bridge.now.weight.kn cases.now)) }
 {
     let mut page = Page::begin(buffer);
     let mut answered: usize = 0;
@@ -107,23 +103,20 @@ fn refuse(fault: &Fault, buffer: &mut [u8]) -> Job
     }
 }
 
-// Asks a bridge with so many rows its load cases, and writes the page.
-fn write_page(bridge: &Bridge<'_, Row>, rows: usize, cases: &[Numbers], page: &mut [u8]) -> Job
-    requires rows { rows ≡ length (items bridge.now.rows) }
-    requires made { AllMade cases.now }
-    ensures bytes { page.new ≡ (page_done page.old (items bridge.now.rows) (outcomes (items bridge.now.rows) bridge.now.weight.kn cases.now)).bytes }
-    ensures written { result.written ≡ (page_done page.old (items bridge.now.rows) (outcomes (items bridge.now.rows) bridge.now.weight.kn cases.now)).written }
-    ensures result { result.result ≡ (page_done page.old (items bridge.now.rows) (outcomes (items bridge.now.rows) bridge.now.weight.kn cases.now)).result }
+// Asks a bridge its load cases, and writes the page.
+fn write_page(bridge: &Bridge<'_, Row>, cases: &[Numbers], page: &mut [u8]) -> Job
+    requires { AllMade cases.now }
+    ensures bytes { page.new ≡ (page_done page.old bridge.now.rows.items (outcomes bridge.now.rows.items bridge.now.weight.kn cases.now)).bytes }
+    ensures written { result.written ≡ (page_done page.old bridge.now.rows.items (outcomes bridge.now.rows.items bridge.now.weight.kn cases.now)).written }
+    ensures result { result.result ≡ (page_done page.old bridge.now.rows.items (outcomes bridge.now.rows.items bridge.now.weight.kn cases.now)).result }
 {
     let (written, lines) = write_cases(bridge, cases, page);
-    let result = match lines {
-        Ok(answered) => Ok(Summary {
-            rows,
-            cases: cases.len(),
-            answered,
-        }),
-        Err(fault) => Err(fault),
-    };
+    let (rows, cases) = (bridge.row_count(), cases.len());
+    let result = lines.map(|answered| Summary {
+        rows,
+        cases,
+        answered,
+    });
     Job { written, result }
 }
 
@@ -137,12 +130,8 @@ pub fn answer_sheet(sheet: &[u8], page: &mut [u8]) -> Job
     let mut row_places = [spare_row(); 64];
     let mut case_places = [spare_case(); 16];
     let mut cases = Listing::new(&mut case_places);
-    let SheetDraft { draft, result } = read_draft(sheet, &mut row_places, &mut cases);
-    match result {
-        Ok(rows) => {
-            let bridge = draft.close();
-            write_page(&bridge, rows, cases.as_slice(), page)
-        }
+    match read_draft(sheet, &mut row_places, &mut cases) {
+        Ok(draft) => write_page(&draft.close(), cases.as_slice(), page),
         Err(fault) => refuse(&fault, page),
     }
 }

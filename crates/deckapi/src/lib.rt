@@ -4,20 +4,10 @@
 
 ghost use Rattle.std.specs.Prelude.{◌≡◌};
 ghost use Rattle.deck.specs.Whole.{job};
-ghost use Rattle.deckapi.specs.Calling.{refusal_number};
+ghost use Rattle.bearing.specs.Refusals.{refusal_number};
 
-use bearing::Fault;
-use deck::{Summary, answer_sheet};
-
-// 0, or the number of the refusal.
-fn refusal_number(res: &Result<Summary, Fault>) -> u32
-    ensures { result ≡ refusal_number res.now }
-{
-    match res {
-        Ok(_) => 0,
-        Err(fault) => fault.refusal.number() as u32,
-    }
-}
+use bearing::refusal_number;
+use deck::answer_sheet;
 
 // Answers a sheet: writes the page and answers its length; `refusal` gets 0, or the number of the refusal.
 #[unsafe(no_mangle)]
@@ -27,6 +17,6 @@ pub extern "C" fn deckpage_answer(sheet: &[u8], page: &mut [u8], refusal: &mut u
     ensures refusal { refusal.new ≡ refusal_number (job sheet.now page.old).result }
 {
     let job = answer_sheet(sheet, page);
-    *refusal = refusal_number(&job.result);
+    *refusal = refusal_number(&job.result) as u32;
     job.written
 }

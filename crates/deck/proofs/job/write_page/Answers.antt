@@ -1,23 +1,15 @@
-use Rattle.std.proofs.Common.{length, sym, ◌∙◌, rules}
-use Rattle.listing.specs.Lists.{items}
+use Rattle.std.proofs.Common.{◌≡◌, length, rules}
+use Rattle.bearing.specs.Refusals.{with_ok}
 use Rattle.page.specs.Pages.{begun_len}
 use Rattle.deck.specs.Whole.{outcomes, lines_answer}
-use Rattle.deck.proofs.Contents.{summed, unsummed}
+use Rattle.deck.proofs.Contents.{summed}
 use Rattle.deck.proofs.job.write_page.Goals as goal
 
-pub returns-in-Ok : goal.returns-in-Ok
-returns-in-Ok c =
-    let rows = items c.args.bridge.now.rows in
+pub returns-clause-result : goal.returns-clause-result
+returns-clause-result c =
+    let rows = c.args.bridge.now.rows.items in
     let W = c.args.bridge.now.weight.kn in
     let size = length c.args.page.now in
-    let sum = summed rows W c.args.cases.now (lines_answer size (begun_len size) 0 (outcomes rows W c.args.cases.now)) c.args.rows c.in-Ok.answered c.requires.rows (sym c.in-Ok.is ∙ c.write_cases-written.ensures.result) in
-    search rules
-
-pub returns-in-Err : goal.returns-in-Err
-returns-in-Err c =
-    let rows = items c.args.bridge.now.rows in
-    let W = c.args.bridge.now.weight.kn in
-    let size = length c.args.page.now in
-    let os = outcomes rows W c.args.cases.now in
-    let none = unsummed rows os (lines_answer size (begun_len size) 0 os) c.in-Err.fault (sym c.in-Err.is ∙ c.write_cases-written.ensures.result) in
-    search rules
+    let sum : c.map-result.result ≡ with_ok c.write_cases-written.result.1 (λ n. record { rows = length c.args.bridge.now.rows.items; cases = length c.args.cases.now; answered = n }) = search rules in
+    summed rows W c.args.cases.now (lines_answer size (begun_len size) 0 (outcomes rows W c.args.cases.now)) c.write_cases-written.result.1 c.map-result.result
+    c.write_cases-written.ensures.result sum
