@@ -1,23 +1,27 @@
--- The n-th part of a text, step by step. Assumes nothing.
-use Rattle.std.proofs.Common.{◌≡◌, ℕ, suc, ◌+◌, ◌-◌, ◌<◌, List, [], ◌∷◌, get_or, Some, None, Option, sym, ap, ◌∙◌, arith}
-use Rattle.sheet.specs.Parts.{parts, parts_of, first, rest}
-use Rattle.sheet.proofs.Cuts.{parts_cut}
+-- The parts of a text are what `split` of a slice at the mark gives. Assumes nothing.
+use Rattle.std.proofs.Common.{◌≡◌, ℕ, eqb, List, [], ◌∷◌, get_or, Some, None, Option, Bor, refl, ap, ◌∙◌}
+use Rattle.std.specs.List.{slice_get, slice_split, onto_first}
+use Rattle.std.specs.Option.{option_map, unwrap_or}
+use Rattle.std.proofs.lemmas.Option.{unwrap_or-slice_get}
+use Rattle.sheet.specs.Parts.{parts, on_first}
 
--- the parts of a text, by its first part and what follows the first mark
-cut_as : (m : ℕ) (xs : List ℕ) (o : Option (List ℕ)) → rest m xs ≡ o → parts m xs ≡ first m xs ∷ parts_of m o
-cut_as m xs o e = parts_cut m xs ∙ ap (λ (p : Option (List ℕ)). first m xs ∷ parts_of m p) e
+same_first : (x : ℕ) (ps : List (List ℕ)) → onto_first x ps ≡ on_first x ps
+same_first x [] = refl
+same_first x (p ∷ ps) = refl
 
-pub first_part : (m : ℕ) (xs : List ℕ) (k : ℕ) → k ≡ 0 → first m xs ≡ get_or (parts m xs) k []
-first_part m xs k e = sym (ap (λ (j : ℕ). get_or (parts m xs) j []) e ∙ ap (λ (ps : List (List ℕ)). get_or ps 0 []) (parts_cut m xs))
+parts_split : (m : ℕ) (xs : List ℕ) → slice_split (λ x. eqb x m) xs ≡ parts m xs
+parts_split m [] = refl
+parts_split m (x ∷ xs) = rw (parts_split m xs, same_first x (parts m xs))
 
--- one part further
-pub next_part : (m : ℕ) (xs ys : List ℕ) (n i : ℕ) → i < n → rest m xs ≡ Some ys → get_or (parts m ys) (n - (i + 1)) [] ≡ get_or (parts m xs) (n - i) []
-next_part m xs ys n i h e =
-    let k : n - i ≡ suc (n - (i + 1)) = omega arith in
-    sym (ap (λ (j : ℕ). get_or (parts m xs) j []) k ∙ ap (λ (ps : List (List ℕ)). get_or ps (suc (n - (i + 1))) []) (cut_as m xs (Some ys) e))
+behind : (o : Option (Bor (List ℕ))) (d : Bor (List ℕ)) → (unwrap_or o d).now ≡ unwrap_or (option_map (λ x. x.now) o) d.now
+behind None d = refl
+behind (Some x) d = refl
 
--- no part further
-pub no_part : (m : ℕ) (xs : List ℕ) (n i : ℕ) → i < n → rest m xs ≡ None → [] ≡ get_or (parts m xs) (n - i) []
-no_part m xs n i h e =
-    let k : n - i ≡ suc (n - (i + 1)) = omega arith in
-    sym (ap (λ (j : ℕ). get_or (parts m xs) j []) k ∙ ap (λ (ps : List (List ℕ)). get_or ps (suc (n - (i + 1))) []) (cut_as m xs None e))
+-- the i-th piece that `split` gives, or else nothing, is the i-th part
+pub part_found : (m : ℕ) (xs : List ℕ) (i : ℕ) (o : Option (Bor (List ℕ))) (d : Bor (List ℕ)) → d.now ≡ [] → option_map (λ x. x.now) o ≡ slice_get (slice_split (λ x. eqb x m) xs) i → (unwrap_or o d).now ≡ get_or (parts m xs) i []
+part_found m xs i o d e f =
+    behind o d
+    ∙ ap (λ (p : Option (List ℕ)). unwrap_or p d.now) f
+    ∙ unwrap_or-slice_get (slice_split (λ x. eqb x m) xs) i d.now
+    ∙ ap (λ (ys : List ℕ). get_or (slice_split (λ x. eqb x m) xs) i ys) e
+    ∙ ap (λ (ps : List (List ℕ)). get_or ps i []) (parts_split m xs)

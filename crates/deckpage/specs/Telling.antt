@@ -2,12 +2,13 @@
 use Rattle.std.specs.Prelude.{ℕ, ◌-◌, List, ◌++◌, codes, decimal}
 use Rattle.bearing.specs.declared.fault.Fault.{Fault}
 use Rattle.bearing.specs.Refusals.{number_of, layer_number}
+use Rattle.bearing.specs.Words.{words_of}
 use Rattle.deck.specs.declared.job.Summary.{Summary}
 use Rattle.deckpage.specs.declared.looking.Found.{Found}
 use Rattle.deckpage.specs.declared.looking.Spot.{Spot}
 use Rattle.deckpage.specs.declared.looking.Spot.TheVariants.{Whole, Line, Number}
 use Rattle.deckpage.specs.Fields.{name_of, allowed_of}
-use Rattle.deckpage.specs.Words.{plural_ending, words_of}
+use Rattle.deckpage.specs.Words.{plural_ending}
 
 -- so many things: the number, the word, and the ending of its plural
 abbrev pub counted_text : ℕ → List ℕ → List ℕ → List ℕ

@@ -3,7 +3,7 @@ ghost use Rattle.deckpage.specs.Looking.{part_at, kind_at, spot_of};
 
 use crate::fields::{LineKind, SheetField, field_of};
 use bearing::Fault;
-use sheet::{number, split_first};
+use sheet::number;
 
 // A number that was found in a field.
 #[derive(Clone, Copy)]
@@ -24,16 +24,9 @@ pub enum Spot {
 fn part_at(text: &[u8], mark: u8, n: usize) -> &[u8]
     ensures { result.now ≡ part_at mark n text.now }
 {
-    let mut left = text;
-    for _i in 1..n {
-        let (_, more) = split_first(left, mark);
-        let Some(rest) = more else {
-            return &text[..0];
-        };
-        left = rest;
-    }
-    let (part, _) = split_first(left, mark);
-    part
+    text.split(|b| *b == mark)
+        .nth(n.saturating_sub(1))
+        .unwrap_or(&[])
 }
 
 // What a line with a number outside its range holds: the second has the weight, a row begins with its letter, and
@@ -41,12 +34,10 @@ fn part_at(text: &[u8], mark: u8, n: usize) -> &[u8]
 fn kind_at(line: u16, text: &[u8]) -> LineKind
     ensures { result ≡ kind_at line text.now }
 {
-    if line == 2 {
-        return LineKind::Weight;
-    }
-    match text {
-        [b'L', ..] => LineKind::Lead,
-        [b'P', ..] => LineKind::Pendulum,
+    match (line, text) {
+        (2, _) => LineKind::Weight,
+        (_, [b'L', ..]) => LineKind::Lead,
+        (_, [b'P', ..]) => LineKind::Pendulum,
         _ => LineKind::Case,
     }
 }
@@ -55,18 +46,22 @@ fn kind_at(line: u16, text: &[u8]) -> LineKind
 pub fn spot_of(sheet: &[u8], fault: &Fault) -> Spot
     ensures { result ≡ spot_of sheet.now fault.now }
 {
-    if fault.line == 0 {
+    let Fault { line, field, .. } = *fault;
+    if line == 0 {
         return Spot::Whole;
     }
-    if fault.field == 0 {
-        return Spot::Line(fault.line);
+    if field == 0 {
+        return Spot::Line(line);
     }
-    let text = part_at(sheet, b'\n', fault.line as usize);
-    match number(part_at(text, b',', fault.field as usize)) {
+    let text = part_at(sheet, b'\n', usize::from(line));
+    match number(part_at(text, b',', usize::from(field))) {
         Some(number) => {
-            let field = field_of(kind_at(fault.line, text), fault.field);
-            Spot::Number(fault.line, fault.field, Found { field, number })
+            let found = Found {
+                field: field_of(kind_at(line, text), field),
+                number,
+            };
+            Spot::Number(line, field, found)
         }
-        None => Spot::Line(fault.line),
+        None => Spot::Line(line),
     }
 }

@@ -2,10 +2,10 @@
 
 #![tactic(auto)]
 
-ghost use Rattle.std.specs.Prelude.{◌≡◌, ◌≤◌, true, false, cond, length, is_ok, IfOk, Ok, Err};
+ghost use Rattle.std.specs.Prelude.{◌≡◌, ◌≤◌, length, true, false, cond, is_ok, IfOk, IfSome, Ok, Err};
 ghost use Rattle.std.specs.Process.{exit_status};
 ghost use Rattle.deckpage.specs.declared.Stopped.TheVariants.{Refused, Failed};
-ghost use Rattle.deckpage.specs.Answering.{job_of};
+ghost use Rattle.deckpage.specs.Answering.{job_of, sheet_of};
 
 mod fields;
 mod looking;
@@ -14,6 +14,7 @@ mod words;
 
 use deck::{PAGE_SPACE, answer_sheet};
 use looking::spot_of;
+use std::alloc::Global;
 use std::io::{Read, Write};
 use std::process::ExitCode;
 use std::{env, io};
@@ -21,7 +22,7 @@ use telling::Answered;
 use words::HELP;
 
 // One byte more than a sheet may have, so that a longer one is seen.
-const MOST_READ: usize = 16_385;
+const MOST_READ: u64 = 16_385;
 
 // Why the program ends with status 1; the words are told by then.
 #[derive(Drop)]
@@ -38,23 +39,16 @@ impl From<io::Error> for Stopped {
     }
 }
 
-// Reads standard input to its end, or until the buffer is full; answers how many bytes it read.
-fn read_input(rt: &HostRuntime, buffer: &mut [u8]) -> io::Result<usize>
-    ensures { IfOk result (λ n. n ≤ length buffer.old) }
+// The sheet that an input holds: its bytes, up to the most that are read.
+fn read_sheet<R: Read + Drop>(input: R, alloc: Global) -> io::Result<Vec<u8>>
+    ensures bytes { IfOk result (λ sheet. IfSome (sheet_of (R.remaining input)) (λ bytes. sheet.items ≡ bytes)) }
+    ensures most { IfOk result (λ sheet. length sheet.items ≤ 16385) }
 {
-    let mut input = rt.stdin();
-    let mut len: usize = 0;
-    for _ in 0..MOST_READ {
-        if len >= buffer.len() {
-            break;
-        }
-        let n = input.read(&mut buffer[len..])?;
-        if n == 0 {
-            break;
-        }
-        len += n;
-    }
-    Ok(len)
+    let mut sheet = Vec::new(alloc);
+    input.take(MOST_READ).read_to_end(&mut sheet)?;
+    // no contract of `take` says that it keeps to the most
+    sheet.truncate(MOST_READ as usize);
+    Ok(sheet)
 }
 
 // Answers a sheet: the page to standard output, and what is told of it to standard error. It ends well only where the
@@ -80,34 +74,29 @@ fn answer(rt: &HostRuntime, sheet: &[u8]) -> Result<(), Stopped>
     }
 }
 
-// Reads the arguments and the sheet, answers it, and tells of input or output that failed.
+// Answers the sheet that an input holds, and ends as `answer` does.
+fn answer_input<R: Read + Drop>(rt: &HostRuntime, input: R) -> Result<(), Stopped>
+    ensures accepted { IfSome (sheet_of (R.remaining input)) (λ sheet. result ≡ Ok tt → is_ok (job_of sheet).result ≡ true) }
+    ensures refused { IfSome (sheet_of (R.remaining input)) (λ sheet. result ≡ Err Refused → is_ok (job_of sheet).result ≡ false) }
+{
+    let sheet = read_sheet(input, rt.alloc())?;
+    answer(rt, &sheet)
+}
+
+// Reads the arguments, answers the sheet on standard input, and tells of input or output that failed.
 fn run(rt: &HostRuntime) -> Result<(), Stopped> {
-    let mut args = env::args(rt)?;
-    let _ = args.next();
-    match args.next() {
-        None => {}
-        Some(word) => {
-            if word.as_str() == "--help" {
-                return Ok(rt.print(HELP)?);
-            }
-            eprintln!(rt;
-                "deckpage takes no argument but --help, and its sheet on standard input"
-            )?;
-            return Err(Stopped::Failed);
+    if let Some(word) = env::args(rt)?.nth(1) {
+        if word.as_str() == "--help" {
+            return Ok(rt.print(HELP)?);
         }
+        eprintln!(rt; "deckpage takes no argument but --help, and its sheet on standard input")?;
+        return Err(Stopped::Failed);
     }
-    let mut sheet = [0; MOST_READ];
-    let ended = match read_input(rt, &mut sheet) {
-        Ok(len) => answer(rt, &sheet[0..len]),
-        Err(_) => Err(Stopped::Failed),
-    };
-    match ended {
-        Err(Stopped::Failed) => {
-            eprintln!(rt; "deckpage: standard input or output failed")?;
-            Err(Stopped::Failed)
-        }
-        r => r,
+    let ended = answer_input(rt, rt.stdin());
+    if let Err(Stopped::Failed) = ended {
+        eprintln!(rt; "deckpage: standard input or output failed")?;
     }
+    ended
 }
 
 // The exit status: 0 where the program ended well, else 1.

@@ -1,9 +1,9 @@
 ghost use Rattle.std.specs.Prelude.{Some};
 ghost use Rattle.deckpage.specs.Telling.{answered_text, found_text, refused_text};
 
-use crate::fields::{allowed_of, name_of};
+use crate::fields::NotAllowed;
 use crate::looking::{Found, Spot};
-use crate::words::{plural, reason};
+use crate::words::plural;
 use bearing::Fault;
 use deck::Summary;
 use std::fmt;
@@ -16,9 +16,11 @@ impl fmt::Display for Answered {
     ghost output = { λ a. Some (answered_text a.0) };
 
     fn fmt<W: fmt::Write>(&self, f: &mut fmt::Formatter<W>) -> fmt::Result {
-        let rows = self.0.rows;
-        let cases = self.0.cases;
-        let answered = self.0.answered;
+        let Summary {
+            rows,
+            cases,
+            answered,
+        } = self.0;
         let row_end = plural(rows);
         let case_end = plural(cases);
         let beyond = cases.saturating_sub(answered);
@@ -34,10 +36,9 @@ impl fmt::Display for Found {
     ghost output = { λ e. Some (found_text e) };
 
     fn fmt<W: fmt::Write>(&self, f: &mut fmt::Formatter<W>) -> fmt::Result {
-        let name = name_of(self.field);
-        let number = self.number;
-        let allowed = allowed_of(self.field);
-        write!(f, "({name}): {number} {allowed}")
+        let Found { field, number } = *self;
+        let allowed = NotAllowed(field);
+        write!(f, "({field}): {number} {allowed}")
     }
 }
 
@@ -54,7 +55,7 @@ impl fmt::Display for Refused {
     fn fmt<W: fmt::Write>(&self, f: &mut fmt::Formatter<W>) -> fmt::Result {
         let number = self.fault.refusal.number();
         let layer = self.fault.layer.number();
-        let why = reason(self.fault.refusal);
+        let why = self.fault.refusal;
         match self.spot {
             Spot::Whole => write!(f, "sheet refused: {why} (refusal {number}, layer {layer})"),
             Spot::Line(line) => write!(

@@ -12,6 +12,7 @@ use anyhow::anyhow;
 use deck::{PAGE_SPACE, answer_sheet};
 use sheet::{number, split_first};
 use std::io::{Read, Write};
+use std::iter;
 
 // The first sheet of the input, and what follows it; none where no length line and as many bytes stand there.
 fn next_framed(text: &[u8]) -> Option<(&[u8], &[u8])>
@@ -19,30 +20,27 @@ fn next_framed(text: &[u8]) -> Option<(&[u8], &[u8])>
 {
     let (length, more) = split_first(text, b'\n');
     let n = number(length)? as usize;
-    let bytes = more?;
-    if n > bytes.len() {
-        return None;
-    }
-    Some((&bytes[..n], &bytes[n..]))
+    more?.split_at_checked(n)
 }
 
 fn main(rt: HostRuntime) -> anyhow::Result<()> {
     let mut input = Vec::new(rt.alloc());
     rt.stdin().read_to_end(&mut input)?;
     let mut left = input.as_slice();
-    for k in 1..100_000u32 {
-        let Some((sheet, more)) = next_framed(left) else {
-            break;
-        };
+    let sheets = iter::from_fn(|| {
+        let (sheet, more) = next_framed(left)?;
+        left = more;
+        Some(sheet)
+    });
+    for (k, sheet) in (1..100_000u32).zip(sheets) {
         let mut page = [0; PAGE_SPACE];
         let job = answer_sheet(sheet, &mut page);
         println!(rt; "sheet {k}")?;
         if let Some(text) = page.get(..job.written) {
             rt.stdout().write_all(text)?;
         }
-        left = more;
     }
-    if left.len() > 0 {
+    if !left.is_empty() {
         return Err(anyhow!("the input is not sheets, each after a line with its length"));
     }
     Ok(())

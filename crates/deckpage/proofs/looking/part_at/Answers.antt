@@ -1,22 +1,14 @@
-use Rattle.std.proofs.Common.{ℕ, ◌-◌, List, Option, sym, ap, ◌∙◌, arith, Bor}
-use Rattle.std.specs.Option.{option_map}
-use Rattle.deckpage.proofs.Parting.{first_part, next_part, no_part}
+use Rattle.std.proofs.Common.{ℕ, List, [], Bor, refl, ap, ◌∙◌, rules, tests, eqb, get_or}
+use Rattle.std.proofs.lemmas.Iterator.Consumers.{nth_from_yields_List}
+use Rattle.std.proofs.lemmas.Iterator.Splits.{YieldsList-from_slice_split}
+use Rattle.sheet.specs.Parts.{parts}
+use Rattle.deckpage.proofs.Parting.{part_found}
 use Rattle.deckpage.proofs.looking.part_at.Goals as goal
-
-pub returns-in_default : goal.returns-in_default
-returns-in_default c =
-    no_part c.args.mark c.loop-i.left.now c.args.n c.loop-i._i c.loop-i-test.true
-    (sym c.split_first.ensures.more ∙ ap (λ (o : Option (Bor (List ℕ))). option_map (λ x. x.now) o) c.in_default.is)
-    ∙ c.loop-i.invariant
-
-pub loop-i-preserved : goal.loop-i-preserved
-loop-i-preserved c =
-    next_part c.args.mark c.loop-i.left.now c.in-Some.rest.now c.args.n c.loop-i._i c.loop-i-test.true
-    (sym c.split_first.ensures.more ∙ ap (λ (o : Option (Bor (List ℕ))). option_map (λ x. x.now) o) c.in-Some.is)
-    ∙ c.loop-i.invariant
 
 pub returns : goal.returns
 returns c =
-    c.split_first-2.ensures.first
-    ∙ first_part c.args.mark c.loop-i.left.now (c.args.n - c.loop-i._i) (omega arith)
-    ∙ c.loop-i.invariant
+    ap (λ (r : Bor (List ℕ)). r.now) c.unwrap_or.ensures
+    ∙ part_found c.args.mark c.args.text.now c.saturating_sub.result c.nth.result _ refl
+    (nth_from_yields_List c.nth.result c.nth.new.self _ c.nth.ensures.ran
+    (YieldsList-from_slice_split _ (λ x. eqb x c.args.mark) c.args.text.now c.split.ensures.rest c.split.ensures.done c.split.ensures.closure (λ x r q k. search (rules, tests))))
+    ∙ ap (λ (i : ℕ). get_or (parts c.args.mark c.args.text.now) i []) c.saturating_sub.ensures
