@@ -1,5 +1,8 @@
-use bearing::{Bearing, Either, Group};
+use crate::bridges::numbers;
+use bearing::{Bearing, Group};
+use either::Either;
 use kinds::{LeadRubber, Pendulum};
+use std::process::Abort;
 use std::test::Fail;
 
 // Five fields, then the number of the refusal (0 for none) and the field it names.
@@ -36,29 +39,30 @@ const PENDULUM: [[u32; 5]; 9] = [
 // A count of bearings of 20,000 kN, then as above.
 const GROUP: [[u32; 3]; 4] = [[0, 1, 1], [1, 0, 0], [2, 3, 0], [21, 1, 1]];
 
+// Whether a making told what is wanted: the refusal's number and field, by this layer and off a sheet.
+fn agrees(rt: &impl Abort, told: (u8, u8, u16, u8), layer: u8, wanted: (u32, u32)) {
+    let (number, by, line, field) = told;
+    assert_eq!(rt; (number as u32, field as u32), wanted);
+    assert_eq!(rt; (by, line), (if number == 0 { 0 } else { layer }, 0));
+}
+
 #[test]
 fn lead_rubber_is_made(rt: HostRuntime) {
     for p in &LEAD_RUBBER {
-        match LeadRubber::new(p[0], p[1], p[2], p[3], p[4]) {
-            Ok(_) => assert_eq!(rt; p[5], 0),
-            Err(e) => {
-                assert_eq!(rt; (e.refusal.number() as u32, e.field as u32), (p[5], p[6]));
-                assert_eq!(rt; (e.layer.number(), e.line), (1, 0));
-            }
-        }
+        let told = numbers(LeadRubber::new(p[0], p[1], p[2], p[3], p[4]));
+        agrees(&rt, told, 1, (p[5], p[6]));
     }
 }
 
 #[test]
 fn pendulum_is_made(rt: HostRuntime) {
     for p in &PENDULUM {
-        match Pendulum::new(p[0], p[1], p[2]) {
-            Ok(_) => assert_eq!(rt; p[3], 0),
-            Err(e) => {
-                assert_eq!(rt; (e.refusal.number() as u32, e.field as u32), (p[3], p[4]));
-                assert_eq!(rt; (e.layer.number(), e.line), (1, 0));
-            }
-        }
+        agrees(
+            &rt,
+            numbers(Pendulum::new(p[0], p[1], p[2])),
+            1,
+            (p[3], p[4]),
+        );
     }
 }
 
@@ -66,13 +70,7 @@ fn pendulum_is_made(rt: HostRuntime) {
 fn group_is_made(rt: HostRuntime) -> Result<(), Fail> {
     let member = Pendulum::new(20_000, 200, 300)?;
     for p in &GROUP {
-        match Group::new(p[0], member) {
-            Ok(_) => assert_eq!(rt; p[1], 0),
-            Err(e) => {
-                assert_eq!(rt; (e.refusal.number() as u32, e.field as u32), (p[1], p[2]));
-                assert_eq!(rt; (e.layer.number(), e.line), (2, 0));
-            }
-        }
+        agrees(&rt, numbers(Group::new(p[0], member)), 2, (p[1], p[2]));
     }
     Ok(())
 }
@@ -86,7 +84,7 @@ fn figures_hold(rt: HostRuntime) -> Result<(), Fail> {
     let pendulum = Pendulum::new(1_000, 60, 1_000)?;
     assert_eq!(rt; pendulum.answer(100, 100, 1_000), (160_000, 60_000_000));
     assert_eq!(rt; pendulum.answer(120, 100, 0), (0, 0));
-    let group = Group::new(2, Either::<Pendulum, LeadRubber>::Second(lead))?;
+    let group = Group::new(2, Either::<Pendulum, LeadRubber>::Right(lead))?;
     assert_eq!(rt; group.answer(100, 100, 1_000), (332_562, 144_239_990));
     Ok(())
 }

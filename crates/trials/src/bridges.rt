@@ -1,13 +1,15 @@
-use bearing::{Either, Fault, Group};
+use bearing::{Fault, Group};
 use bridge::{Draft, DraftCall, Question, Response, replay};
-use damping::{EitherRule, EurocodeRule, TableRule};
+use damping::{EurocodeRule, TableRule};
+use either::Either;
 use kinds::{LeadRubber, Pendulum};
 use listing::Listing;
 use loading::{Case, CaseNumbers, Site, Weight};
+use sheet::SheetRule;
 use std::test::Fail;
 
 // Number, layer, line and field of a fault; zeros where there is none.
-fn numbers<T: Drop>(r: Result<T, Fault>) -> (u8, u8, u16, u8) {
+pub(crate) fn numbers<T: Drop>(r: Result<T, Fault>) -> (u8, u8, u16, u8) {
     match r {
         Ok(_) => (0, 0, 0, 0),
         Err(e) => (e.refusal.number(), e.layer.number(), e.line, e.field),
@@ -78,20 +80,14 @@ fn lists(rt: HostRuntime) {
 // The worked bridge: 4000 kN on four pendulums; without a row, answered, and beyond range.
 #[test]
 fn queries(rt: HostRuntime) -> Result<(), Fail> {
-    let Ok(weight) = Weight::new(4_000) else {
-        return Err(Fail::new("weight"));
-    };
-    let pendulum = Pendulum::new(1_000, 60, 1_000).ok().ok_or("pendulum")?;
-    let row = Group::new(4, pendulum).ok().ok_or("group")?;
-    let Ok(mild) = Case::new(case(30, 100, 120, 100, 100)) else {
-        return Err(Fail::new("mild"));
-    };
-    let Ok(hard) = Case::new(CaseNumbers {
+    let weight = Weight::new(4_000)?;
+    let pendulum = Pendulum::new(1_000, 60, 1_000)?;
+    let row = Group::new(4, pendulum)?;
+    let mild = Case::new(case(30, 100, 120, 100, 100))?;
+    let hard = Case::new(CaseNumbers {
         site: Site::IV,
         ..case(100, 100, 100, 100, 100)
-    }) else {
-        return Err(Fail::new("hard"));
-    };
+    })?;
     let mut none: [Group<Pendulum>; 0] = [];
     let mut empty = Draft::begin(weight, &mut none);
     assert_eq!(rt; numbers(empty.hang(row)), (4, 2, 0, 0));
@@ -101,7 +97,7 @@ fn queries(rt: HostRuntime) -> Result<(), Fail> {
     assert_eq!(rt; numbers(draft.hang(row)), (0, 0, 0, 0));
     let bridge = draft.close();
     assert_eq!(rt; numbers(bridge.query(&hard)), (8, 2, 0, 0));
-    let a = bridge.query(&mild).ok().ok_or("answer")?;
+    let a = bridge.query(&mild)?;
     assert_eq!(rt;
         (a.dlow, a.dhigh, a.force, a.clear, a.restores),
         (1_214, 1_091, 773_600, 1_214, true)
@@ -129,9 +125,7 @@ fn figures(r: &Response) -> [u64; 7] {
 
 type Kind = Either<LeadRubber, Pendulum>;
 
-type Rule = EitherRule<TableRule, EurocodeRule>;
-
-fn mixed_case(accel: u32, site: Site, rule: Rule) -> Result<Case<Rule>, Fault> {
+fn mixed_case(accel: u32, site: Site, rule: SheetRule) -> Result<Case<SheetRule>, Fault> {
     Case::new(CaseNumbers {
         accel,
         site,
@@ -147,15 +141,11 @@ fn mixed_case(accel: u32, site: Site, rule: Rule) -> Result<Case<Rule>, Fault> {
 // hangings and two takings-off, on two places.
 #[test]
 fn mixed_run(rt: HostRuntime) -> Result<(), Fail> {
-    let Ok(weight) = Weight::new(3_000) else {
-        return Err(Fail::new("weight"));
-    };
-    let lead = LeadRubber::new(100, 114, 500, 62, 150).ok().ok_or("lead")?;
-    let pendulum = Pendulum::new(1_000, 60, 1_000).ok().ok_or("pendulum")?;
-    let first: Group<Kind> = Group::new(4, Either::First(lead)).ok().ok_or("first")?;
-    let second: Group<Kind> = Group::new(2, Either::Second(pendulum))
-        .ok()
-        .ok_or("second")?;
+    let weight = Weight::new(3_000)?;
+    let lead = LeadRubber::new(100, 114, 500, 62, 150)?;
+    let pendulum = Pendulum::new(1_000, 60, 1_000)?;
+    let first: Group<Kind> = Group::new(4, Either::Left(lead))?;
+    let second: Group<Kind> = Group::new(2, Either::Right(pendulum))?;
     let calls = [
         DraftCall::TakeOff,
         DraftCall::Hang(first),
@@ -164,21 +154,11 @@ fn mixed_run(rt: HostRuntime) -> Result<(), Fail> {
         DraftCall::TakeOff,
         DraftCall::Hang(second),
     ];
-    let Ok(table) = mixed_case(30, Site::II, EitherRule::First(TableRule)) else {
-        return Err(Fail::new("table"));
-    };
-    let Ok(eurocode) = mixed_case(30, Site::II, EitherRule::Second(EurocodeRule)) else {
-        return Err(Fail::new("eurocode"));
-    };
-    let Ok(hard) = mixed_case(100, Site::IV, EitherRule::First(TableRule)) else {
-        return Err(Fail::new("hard"));
-    };
-    let Ok(row_case) = mixed_case(30, Site::II, EitherRule::First(TableRule)) else {
-        return Err(Fail::new("row"));
-    };
-    let Ok(no_row) = mixed_case(30, Site::II, EitherRule::First(TableRule)) else {
-        return Err(Fail::new("no row"));
-    };
+    let table = mixed_case(30, Site::II, Either::Left(TableRule))?;
+    let eurocode = mixed_case(30, Site::II, Either::Right(EurocodeRule))?;
+    let hard = mixed_case(100, Site::IV, Either::Left(TableRule))?;
+    let row_case = mixed_case(30, Site::II, Either::Left(TableRule))?;
+    let no_row = mixed_case(30, Site::II, Either::Left(TableRule))?;
     let questions = [
         Question::Query(table),
         Question::Query(eurocode),
@@ -213,14 +193,10 @@ fn mixed_run(rt: HostRuntime) -> Result<(), Fail> {
 // The worked bridge by a run, one that stops before closing, one without rows, and one whose replies do not fit.
 #[test]
 fn worked_run(rt: HostRuntime) -> Result<(), Fail> {
-    let Ok(weight) = Weight::new(4_000) else {
-        return Err(Fail::new("weight"));
-    };
-    let pendulum = Pendulum::new(1_000, 60, 1_000).ok().ok_or("pendulum")?;
-    let row = Group::new(4, pendulum).ok().ok_or("group")?;
-    let Ok(mild) = Case::new(case(30, 100, 120, 100, 100)) else {
-        return Err(Fail::new("mild"));
-    };
+    let weight = Weight::new(4_000)?;
+    let pendulum = Pendulum::new(1_000, 60, 1_000)?;
+    let row = Group::new(4, pendulum)?;
+    let mild = Case::new(case(30, 100, 120, 100, 100))?;
     let questions = [Question::Query(mild)];
     let mut places = [row; 1];
     let mut replies = [Ok(()); 1];

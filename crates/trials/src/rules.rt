@@ -1,4 +1,5 @@
-use damping::{DampingRule, EitherRule, EurocodeRule, TableRule};
+use damping::{DampingRule, EurocodeRule, TableRule};
+use either::Either;
 use std::process::Abort;
 
 // Each row: E, and the greatest demand that is still met at P = 4520.
@@ -11,8 +12,8 @@ fn edges<R: DampingRule>(rt: &impl Abort, rule: &R, rows: &[(u64, u64)]) {
 
 #[test]
 fn greatest_demands(rt: HostRuntime) {
-    let table: EitherRule<TableRule, EurocodeRule> = EitherRule::First(TableRule);
-    let eurocode: EitherRule<TableRule, EurocodeRule> = EitherRule::Second(EurocodeRule);
+    let table: Either<TableRule, EurocodeRule> = Either::Left(TableRule);
+    let eurocode: Either<TableRule, EurocodeRule> = Either::Right(EurocodeRule);
     edges(&rt, &table, &[(355, 4520), (710, 6508), (4520, 18080)]);
     edges(&rt, &eurocode, &[(0, 2260), (4520, 14942)]);
 }

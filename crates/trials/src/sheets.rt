@@ -1,9 +1,8 @@
-use bearing::{Either, Group};
-use damping::{EitherRule, TableRule};
-use kinds::Pendulum;
+use damping::TableRule;
+use either::Either;
 use listing::Listing;
 use loading::{CaseNumbers, Site};
-use sheet::{Numbers, Row, number, read};
+use sheet::{Numbers, number, read, spare_row};
 use std::process::Abort;
 use std::test::Fail;
 
@@ -33,8 +32,6 @@ fn outcome(
     row_places: usize,
     case_places: usize,
 ) -> Result<[usize; 4], Fail> {
-    let pendulum = Pendulum::new(10, 10, 200).ok().ok_or("pendulum")?;
-    let spare: Row = Group::new(1, Either::Second(pendulum)).ok().ok_or("group")?;
     let numbers: Numbers = CaseNumbers {
         accel: 1,
         site: Site::I,
@@ -42,9 +39,9 @@ fn outcome(
         shi: 100,
         klo: 100,
         khi: 100,
-        rule: EitherRule::First(TableRule),
+        rule: Either::Left(TableRule),
     };
-    let mut rows = [spare; 65];
+    let mut rows = [spare_row(); 65];
     let mut cases = [numbers; 17];
     let mut rows = Listing::new(rows.get_mut(..row_places).ok_or("places")?);
     let mut cases = Listing::new(cases.get_mut(..case_places).ok_or("places")?);
