@@ -1,5 +1,5 @@
 ghost use Rattle.std.specs.Prelude.{◌≡◌, ◌≤◌, min, [], length};
-ghost use Rattle.listing.specs.Lists.{with_items, pushed, push_answer, popped, pop_answer};
+ghost use Rattle.listing.specs.Lists.{listed, with_items, pushed, push_answer, popped, pop_answer};
 
 use bearing::Fault;
 use listing::Listing;
@@ -24,7 +24,7 @@ impl<'a, B: Copy> Draft<'a, B> {
     // A draft without rows.
     pub fn begin(weight: Weight, places: &'a mut [B]) -> Self
         ensures weight { result.weight ≡ weight }
-        ensures rows { result.rows ≡ record { items = []; capacity = min 64 (length places.old) } }
+        ensures rows { listed result.rows ≡ record { items = []; capacity = min 64 (length places.old) } }
     {
         Draft {
             weight,
@@ -35,7 +35,7 @@ impl<'a, B: Copy> Draft<'a, B> {
     // Hangs a row at the end.
     pub fn hang(&mut self, row: B) -> Result<(), Fault>
         ensures answer { result ≡ push_answer self.old.rows.capacity self.old.rows.items }
-        ensures rows { self.new.rows ≡ with_items self.old.rows (pushed self.old.rows.capacity self.old.rows.items row) }
+        ensures rows { listed self.new.rows ≡ with_items (listed self.old.rows) (pushed self.old.rows.capacity self.old.rows.items row) }
         ensures weight { self.new.weight ≡ self.old.weight }
     {
         self.rows.push(row)
@@ -44,7 +44,7 @@ impl<'a, B: Copy> Draft<'a, B> {
     // Takes the last row off; its place serves again.
     pub fn take_off(&mut self) -> Result<(), Fault>
         ensures answer { result ≡ pop_answer self.old.rows.items }
-        ensures rows { self.new.rows ≡ with_items self.old.rows (popped self.old.rows.items) }
+        ensures rows { listed self.new.rows ≡ with_items (listed self.old.rows) (popped self.old.rows.items) }
         ensures weight { self.new.weight ≡ self.old.weight }
     {
         self.rows.take_off()

@@ -1,5 +1,5 @@
 ghost use Rattle.std.specs.Prelude.{◌≡◌, min, true, false, ◌&&◌, map, length, ◌==◌};
-ghost use Rattle.listing.specs.Lists.{with_items};
+ghost use Rattle.listing.specs.Lists.{listed, with_items};
 ghost use Rattle.bridge.specs.Calls.{called, call_reply, hung_rows, call_replies};
 ghost use Rattle.bridge.specs.Replay.{response_values, asked, Law, Each, Run, questions_of};
 
@@ -12,7 +12,7 @@ use loading::Weight;
 impl<'a, B: Copy> Draft<'a, B> {
     fn enter(&mut self, call: &DraftCall<B>) -> Result<(), Fault>
         ensures answer { result ≡ call_reply self.old.rows.capacity self.old.rows.items call.now }
-        ensures rows { self.new.rows ≡ with_items self.old.rows (called self.old.rows.capacity self.old.rows.items call.now) }
+        ensures rows { listed self.new.rows ≡ with_items (listed self.old.rows) (called self.old.rows.capacity self.old.rows.items call.now) }
         ensures weight { self.new.weight ≡ self.old.weight }
     {
         match call {
@@ -41,7 +41,7 @@ fn enter_all<B: Copy>(
     replies: &mut [Result<(), Fault>],
 )
     requires { length replies.old ≡ length calls.now }
-    ensures rows { draft.new.rows ≡ with_items draft.old.rows (hung_rows draft.old.rows.capacity draft.old.rows.items calls.now) }
+    ensures rows { listed draft.new.rows ≡ with_items (listed draft.old.rows) (hung_rows draft.old.rows.capacity draft.old.rows.items calls.now) }
     ensures weight { draft.new.weight ≡ draft.old.weight }
     ensures answers { replies.new ≡ call_replies draft.old.rows.capacity draft.old.rows.items calls.now }
 {

@@ -1,5 +1,6 @@
 -- What a list over lent places means: its elements. Assumes nothing.
 use Rattle.std.specs.Prelude.{ℕ, ◌-◌, Bool, cond, List, [], ◌∷◌, ◌++◌, length, take, Ok, Err, Result, nat_lt}
+use Rattle.std.specs.Borrow.{MutBor}
 use Rattle.bearing.specs.declared.fault.Fault.{Fault}
 use Rattle.bearing.specs.declared.fault.Refusal.TheVariants.{NoPlace, NothingHung}
 use Rattle.bearing.specs.declared.fault.Layer.TheVariants.{Bridge}
@@ -9,6 +10,16 @@ use Rattle.bearing.specs.Refusals.{plain_fault}
 pub record Listed (T : Type 0) : Type 0 where
   pub items : List T
   pub capacity : ℕ
+
+-- the same with the places themselves, as they were lent
+pub record Lent (T : Type 0) : Type 0 where
+  pub items : List T
+  pub capacity : ℕ
+  pub places : MutBor (List T)
+
+-- its elements and how many it can hold
+abbrev pub listed : {T : Type 0} → Lent T → Listed T
+listed l = record { items = l.items; capacity = l.capacity }
 
 -- the same places with these elements
 abbrev pub with_items : {T : Type 0} → Listed T → List T → Listed T

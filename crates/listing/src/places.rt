@@ -1,5 +1,5 @@
 ghost use Rattle.std.specs.Prelude.{◌≡◌, ◌≤◌, [], length, min, take};
-ghost use Rattle.listing.specs.Lists.{Listed, with_items, pushed, push_answer, popped, pop_answer};
+ghost use Rattle.listing.specs.Lists.{Lent, listed, with_items, pushed, push_answer, popped, pop_answer};
 
 use bearing::{Fault, Layer, Refusal};
 use std::marker::Model;
@@ -12,9 +12,9 @@ pub struct Listing<'a, T: Copy, const MAX: usize> {
 }
 
 impl<'a, T: Copy, const MAX: usize> Model for Listing<'a, T, MAX> {
-    ghost Value = { Listed T };
+    ghost Value = { Lent T };
 
-    ghost view = { λ l. record { items = take l.count l.places.now; capacity = min MAX (length l.places.now) } };
+    ghost view = { λ l. record { items = take l.count l.places.now; capacity = min MAX (length l.places.now); places = l.places } };
 
     ghost invariant = { λ l. (l.count ≤ MAX) × (l.count ≤ length l.places.now) };
 }
@@ -22,7 +22,7 @@ impl<'a, T: Copy, const MAX: usize> Model for Listing<'a, T, MAX> {
 impl<'a, T: Copy, const MAX: usize> Listing<'a, T, MAX> {
     // An empty list.
     pub fn new(places: &'a mut [T]) -> Self
-        ensures { result ≡ record { items = []; capacity = min MAX (length places.old) } }
+        ensures { result ≡ record { items = []; capacity = min MAX (length places.old); places = places.entry } }
     {
         Listing { places, count: 0 }
     }
@@ -37,7 +37,7 @@ impl<'a, T: Copy, const MAX: usize> Listing<'a, T, MAX> {
     // One element more at the end.
     pub fn push(&mut self, x: T) -> Result<(), Fault>
         ensures answer { result ≡ push_answer self.old.capacity self.old.items }
-        ensures list { self.new ≡ with_items self.old (pushed self.old.capacity self.old.items x) }
+        ensures list { listed self.new ≡ with_items (listed self.old) (pushed self.old.capacity self.old.items x) }
     {
         if self.count >= MAX || self.count >= self.places.len() {
             return Err(Layer::Bridge.refuses(Refusal::NoPlace));
@@ -50,7 +50,7 @@ impl<'a, T: Copy, const MAX: usize> Listing<'a, T, MAX> {
     // The last element goes, and its place serves again.
     pub fn take_off(&mut self) -> Result<(), Fault>
         ensures answer { result ≡ pop_answer self.old.items }
-        ensures list { self.new ≡ with_items self.old (popped self.old.items) }
+        ensures list { listed self.new ≡ with_items (listed self.old) (popped self.old.items) }
     {
         if self.count == 0 {
             return Err(Layer::Bridge.refuses(Refusal::NothingHung));
@@ -61,7 +61,7 @@ impl<'a, T: Copy, const MAX: usize> Listing<'a, T, MAX> {
 
     // No element is left, and every place is free.
     pub fn clear(&mut self)
-        ensures list { self.new ≡ with_items self.old [] }
+        ensures list { listed self.new ≡ with_items (listed self.old) [] }
         ensures few { self.old.capacity ≤ MAX }
     {
         self.count = 0;

@@ -2,7 +2,7 @@ ghost use Rattle.std.specs.Prelude.{◌≡◌, min, [], length};
 ghost use Rattle.either.specs.declared.Either.TheVariants.{Right};
 ghost use Rattle.bearing.specs.Compound.{group_of};
 ghost use Rattle.kinds.specs.Pendulums.{pendulum_of};
-ghost use Rattle.listing.specs.Lists.{with_items};
+ghost use Rattle.listing.specs.Lists.{listed, with_items};
 ghost use Rattle.bearing.specs.Refusals.{with_ok};
 ghost use Rattle.sheet.specs.Reading.{read_sheet, cases_read, AllMade};
 ghost use Rattle.sheet.specs.Hanging.{hung};
@@ -26,7 +26,7 @@ pub fn spare_row() -> Row
 
 // Hangs rows in their order.
 fn hang_rows(draft: &mut Draft<'_, Row>, rows: &[Row])
-    ensures rows { draft.new.rows ≡ with_items draft.old.rows (hung draft.old.rows.capacity draft.old.rows.items rows.now) }
+    ensures rows { listed draft.new.rows ≡ with_items (listed draft.old.rows) (hung draft.old.rows.capacity draft.old.rows.items rows.now) }
     ensures weight { draft.new.weight ≡ draft.old.weight }
 {
     for row in rows {
@@ -43,8 +43,8 @@ pub fn read_draft<'a>(
 ) -> Result<Draft<'a, Row>, Fault>
     ensures weight { with_ok result (λ d. d.weight.kn) ≡ with_ok (read_sheet (min 64 (length places.old)) cases.old.capacity sheet.now) (λ c. c.weight) }
     ensures hung { with_ok result (λ d. d.rows.items) ≡ with_ok (read_sheet (min 64 (length places.old)) cases.old.capacity sheet.now) (λ c. hung (min 64 (length places.old)) [] c.rows) }
-    ensures rows { with_ok result (λ d. d.rows) ≡ with_ok (read_sheet (min 64 (length places.old)) cases.old.capacity sheet.now) (λ c. record { items = c.rows; capacity = min 64 (length places.old) }) }
-    ensures cases { cases.new ≡ with_items cases.old (cases_read (read_sheet (min 64 (length places.old)) cases.old.capacity sheet.now)) }
+    ensures rows { with_ok result (λ d. listed d.rows) ≡ with_ok (read_sheet (min 64 (length places.old)) cases.old.capacity sheet.now) (λ c. record { items = c.rows; capacity = min 64 (length places.old) }) }
+    ensures cases { listed cases.new ≡ with_items (listed cases.old) (cases_read (read_sheet (min 64 (length places.old)) cases.old.capacity sheet.now)) }
     ensures made { AllMade cases.new.items }
 {
     let mut scratch = [spare_row(); 64];

@@ -1,6 +1,6 @@
 ghost use Rattle.std.specs.Prelude.{◌≡◌};
 ghost use Rattle.bearing.specs.Refusals.{with_ok};
-ghost use Rattle.listing.specs.Lists.{with_items};
+ghost use Rattle.listing.specs.Lists.{listed, with_items};
 ghost use Rattle.sheet.specs.Reading.{weight_at_end, ended_with};
 ghost use Rattle.sheet.specs.Machine.{standing, state_of, named_as, weighed, kept, step, after, answer};
 
@@ -27,7 +27,7 @@ fn keep<T: Copy, const MAX: usize>(
     x: Result<T, Fault>,
 ) -> Result<(), Fault>
     ensures result { result ≡ answer (kept list.old.capacity list.old.items x) }
-    ensures list { list.new ≡ with_items list.old (after (kept list.old.capacity list.old.items x) list.old.items) }
+    ensures list { listed list.new ≡ with_items (listed list.old) (after (kept list.old.capacity list.old.items x) list.old.items) }
 {
     list.push(x?)
 }

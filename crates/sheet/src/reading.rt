@@ -1,6 +1,6 @@
 ghost use Rattle.std.specs.Prelude.{◌≡◌, ◌≤◌, length};
 ghost use Rattle.bearing.specs.Refusals.{with_ok};
-ghost use Rattle.listing.specs.Lists.{with_items};
+ghost use Rattle.listing.specs.Lists.{listed, with_items};
 ghost use Rattle.sheet.specs.Parts.{parts};
 ghost use Rattle.sheet.specs.Reading.{begun_with, read_parts, read_sheet, rows_read, cases_read, AllMade};
 ghost use Rattle.sheet.specs.Text.{TextLaw};
@@ -46,8 +46,8 @@ pub fn read(
     cases: &mut Listing<'_, Numbers, 16>,
 ) -> Result<Weight, Fault>
     ensures weight { with_ok result (λ w. w.kn) ≡ with_ok (read_sheet rows.old.capacity cases.old.capacity sheet.now) (λ c. c.weight) }
-    ensures rows { rows.new ≡ with_items rows.old (rows_read (read_sheet rows.old.capacity cases.old.capacity sheet.now)) }
-    ensures cases { cases.new ≡ with_items cases.old (cases_read (read_sheet rows.old.capacity cases.old.capacity sheet.now)) }
+    ensures rows { listed rows.new ≡ with_items (listed rows.old) (rows_read (read_sheet rows.old.capacity cases.old.capacity sheet.now)) }
+    ensures cases { listed cases.new ≡ with_items (listed cases.old) (cases_read (read_sheet rows.old.capacity cases.old.capacity sheet.now)) }
     ensures made { AllMade cases.new.items }
     ensures text { TextLaw rows.old.capacity cases.old.capacity sheet.now }
 {

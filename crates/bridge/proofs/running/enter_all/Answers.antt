@@ -1,5 +1,5 @@
 use Rattle.std.proofs.Common.{[], ◌∷◌, ◌++◌, sym, ap, ◌∙◌, ap₂, arith}
-use Rattle.listing.specs.Lists.{Listed, with_items}
+use Rattle.listing.specs.Lists.{Listed, listed, with_items}
 use Rattle.bridge.specs.Calls.{called, call_reply}
 use Rattle.bridge.proofs.Entering.{hung_next, replies_next, put_next}
 use Rattle.bridge.proofs.running.enter_all.Goals as goal
@@ -8,7 +8,7 @@ pub loop-i-preserved : goal.loop-i-preserved
 loop-i-preserved g c =
     let e = c.enter.ensures in
     let i = c.loop-i.invariant in
-    let start = c.args.draft.now.rows in
+    let start = listed c.args.draft.now.rows in
     let call = c.index-calls-i.result in (
       e.rows
           ∙ ap (λ (l : Listed g.row.B.Denot). with_items l (called l.capacity l.items call)) i.0

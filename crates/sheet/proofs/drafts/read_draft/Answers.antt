@@ -1,6 +1,6 @@
 use Rattle.std.proofs.Common.{◌≡◌, ℕ, ◌≤◌, min, List, length, Ok, ap, ◌∙◌, ap₂, arith, length-take}
 use lib.ListN.{length-replicate}
-use Rattle.listing.specs.Lists.{Listed, with_items}
+use Rattle.listing.specs.Lists.{Lent, Listed, with_items}
 use Rattle.bearing.specs.Refusals.{with_ok}
 use Rattle.sheet.specs.RowLines.{Row}
 use Rattle.sheet.specs.Reading.{Content, read_sheet, rows_read}
@@ -13,7 +13,7 @@ returns-clause-rows c =
     let places = min 64 (length c.args.places.now) in
     let seats = c.args.cases.now.capacity in
     let rows = c.read.new.rows.items in
-    let cap : c.new-rows.result.capacity ≡ places = ap (λ (l : Listed Row). l.capacity) c.new-rows.ensures ∙ simp (length-take, length-replicate) (omega (arith, c.min-most.ensures)) in
+    let cap : c.new-rows.result.capacity ≡ places = ap (λ (l : Lent Row). l.capacity) c.new-rows.ensures ∙ simp (length-take, length-replicate) (omega (arith, c.min-most.ensures)) in
     let held = ap (λ (l : Listed Row). l.capacity) c.read.ensures.rows ∙ cap in
     let few : length rows ≤ places = omega (arith, ap length c.as_slice.ensures.items, c.as_slice.ensures.placed, held) in
     ap (λ (l : Listed Row). Ok l)
