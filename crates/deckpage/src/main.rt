@@ -14,7 +14,6 @@ mod words;
 
 use deck::{PAGE_SPACE, answer_sheet};
 use looking::spot_of;
-use std::alloc::Global;
 use std::io::{Read, Write};
 use std::process::ExitCode;
 use std::{env, io};
@@ -22,7 +21,7 @@ use telling::Answered;
 use words::HELP;
 
 // One byte more than a sheet may have, so that a longer one is seen.
-const MOST_READ: u64 = 16_385;
+const MOST_READ: usize = 16_385;
 
 // Why the program ends with status 1; the words are told by then.
 #[derive(Drop)]
@@ -39,16 +38,24 @@ impl From<io::Error> for Stopped {
     }
 }
 
-// The sheet that an input holds: its bytes, up to the most that are read.
-fn read_sheet<R: Read + Drop>(input: R, alloc: Global) -> io::Result<Vec<u8>>
-    ensures bytes { IfOk result (λ sheet. IfSome (sheet_of (R.remaining input)) (λ bytes. sheet.items ≡ bytes)) }
-    ensures most { IfOk result (λ sheet. length sheet.items ≤ 16385) }
+// The sheet that an input holds: its bytes, up to the most that are read, in the places lent. Every read asks for all
+// that is still free, and nothing is allocated.
+fn read_sheet<R: Read + Drop>(mut input: R, places: &mut [u8; MOST_READ]) -> io::Result<&[u8]>
+    ensures bytes { IfOk result (λ sheet. IfSome (sheet_of (R.remaining input)) (λ bytes. sheet.now ≡ bytes)) }
+    ensures most { IfOk result (λ sheet. length sheet.now ≤ 16385) }
 {
-    let mut sheet = Vec::new(alloc);
-    input.take(MOST_READ).read_to_end(&mut sheet)?;
-    // no contract of `take` says that it keeps to the most
-    sheet.truncate(MOST_READ as usize);
-    Ok(sheet)
+    let mut len: usize = 0;
+    for _ in 0..MOST_READ {
+        if len >= MOST_READ {
+            break;
+        }
+        let n = input.read(&mut places[len..])?;
+        if n == 0 {
+            break;
+        }
+        len += n;
+    }
+    Ok(&places[..len])
 }
 
 // Answers a sheet: the page to standard output, and what is told of it to standard error. It ends well only where the
@@ -79,8 +86,9 @@ fn answer_input<R: Read + Drop>(rt: &HostRuntime, input: R) -> Result<(), Stoppe
     ensures accepted { IfSome (sheet_of (R.remaining input)) (λ sheet. result ≡ Ok tt → is_ok (job_of sheet).result ≡ true) }
     ensures refused { IfSome (sheet_of (R.remaining input)) (λ sheet. result ≡ Err Refused → is_ok (job_of sheet).result ≡ false) }
 {
-    let sheet = read_sheet(input, rt.alloc())?;
-    answer(rt, &sheet)
+    let mut places = [0; MOST_READ];
+    let sheet = read_sheet(input, &mut places)?;
+    answer(rt, sheet)
 }
 
 // Reads the arguments, answers the sheet on standard input, and tells of input or output that failed.
