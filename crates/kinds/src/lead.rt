@@ -85,6 +85,7 @@ impl LeadRubber {
     }
 
     // The bearing itself, where its fields are accepted.
+    #[inline(always)]
     fn checked(&self) -> Result<LeadRubber, Fault>
         ensures { result ≡ lead_checked self.now }
     {

@@ -5,7 +5,7 @@ ghost use Rattle.kinds.specs.PendulumsLemmas.{pendulum_laws};
 ghost use Rattle.std.proofs.Common.{rules};
 
 use bearing::{
-    Bearing, Fault, Layer, SheetKind, TOP_FACTOR, TOP_TRAVEL, check_force, check_range,
+    Bearing, Fault, Layer, SheetKind, TOP_FACTOR, TOP_FORCE, TOP_TRAVEL, check_force, check_range,
     nearest_factor, nearest_travel,
 };
 
@@ -78,7 +78,7 @@ impl Bearing for Pendulum {
 
     // The stiffness factor has no effect: load and radius alone give the stiffness.
     fn answer(&self, s: u16, _k: u16, d: u16) -> (u64, u64) {
-        if self.checked().is_err() {
+        if self.ranges().is_err() || self.slide(TOP_FACTOR, TOP_TRAVEL).0 > TOP_FORCE {
             return (0, 0);
         }
         self.slide(s, d)

@@ -1,16 +1,14 @@
-ghost use Rattle.std.specs.Prelude.{◌≡◌};
+ghost use Rattle.std.specs.Prelude.{◌≡◌, ◌≤◌, ◌++◌, length};
 ghost use Rattle.bridge.specs.Outcomes.{outcome};
 ghost use Rattle.page.specs.Text.{values_text, case_line, end_line, yes_or_no};
 
-use crate::texts::field;
+use crate::texts::push_field;
 use arrayvec::ArrayString;
 use bearing::{Fault, refusal_number};
 use bridge::Answer;
 
 // A case line of the largest numbers: six of 20 digits, six commas, Y or N and the line end.
 const LONGEST_LINE: usize = 128;
-// The five values of the largest numbers: a case line without its first two numbers and their commas.
-const LONGEST_VALUES: usize = 86;
 // An end line of the largest number.
 const LONGEST_END: usize = 25;
 
@@ -21,23 +19,23 @@ fn flag(restores: bool) -> &'static str
     if restores { "Y\n" } else { "N\n" }
 }
 
-// The five values of a case, or `-` for each, and the line end.
+// Puts the five values of a case, or `-` for each, and the line end after a text.
 #[tactic(auto, unfolding(crate::specs::Text::values_text))]
-fn values(answer: &Result<Answer, Fault>) -> ArrayString<LONGEST_VALUES>
-    ensures { result.bytes ≡ values_text (outcome answer.now) }
+#[inline(always)]
+fn push_values(text: &mut ArrayString<LONGEST_LINE>, answer: &Result<Answer, Fault>)
+    requires { length text.old.bytes ≤ 42 }
+    ensures { text.new.bytes ≡ text.old.bytes ++ values_text (outcome answer.now) }
 {
-    let mut text = ArrayString::new();
     match answer {
         Ok(a) => {
-            text.push_str(&field(a.dlow as u64));
-            text.push_str(&field(a.dhigh as u64));
-            text.push_str(&field(a.force));
-            text.push_str(&field(a.clear as u64));
+            push_field(text, a.dlow as u64);
+            push_field(text, a.dhigh as u64);
+            push_field(text, a.force);
+            push_field(text, a.clear as u64);
             text.push_str(flag(a.restores));
         }
         Err(_) => text.push_str("-,-,-,-,-\n"),
     }
-    text
 }
 
 // A case line.
@@ -46,9 +44,9 @@ pub(crate) fn case_line(place: u64, answer: &Result<Answer, Fault>) -> ArrayStri
     ensures { result.bytes ≡ case_line place (outcome answer.now) }
 {
     let mut line = ArrayString::new();
-    line.push_str(&field(place));
-    line.push_str(&field(refusal_number(answer) as u64));
-    line.push_str(&values(answer));
+    push_field(&mut line, place);
+    push_field(&mut line, refusal_number(answer) as u64);
+    push_values(&mut line, answer);
     line
 }
 

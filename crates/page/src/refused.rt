@@ -2,7 +2,7 @@ ghost use Rattle.std.specs.Prelude.{◌≡◌, length};
 ghost use Rattle.page.specs.Text.{refusal_page};
 ghost use Rattle.page.specs.Pages.{refusal_answer, refusal_written};
 
-use crate::texts::{field, put};
+use crate::texts::{push_field, put};
 use arrayvec::ArrayString;
 use bearing::{Fault, Layer, Refusal};
 
@@ -18,9 +18,9 @@ fn refusal_page(e: &Fault) -> ArrayString<LONGEST_PAGE>
     let mut page = ArrayString::new();
     let mut digits = itoa::Buffer::new();
     page.push_str("refused,layer,line,field\n");
-    page.push_str(&field(e.refusal.number() as u64));
-    page.push_str(&field(e.layer.number() as u64));
-    page.push_str(&field(e.line as u64));
+    push_field(&mut page, e.refusal.number() as u64);
+    push_field(&mut page, e.layer.number() as u64);
+    push_field(&mut page, e.line as u64);
     page.push_str(digits.format(e.field));
     page.push_str("\n");
     page

@@ -1,20 +1,18 @@
-ghost use Rattle.std.specs.Prelude.{◌≡◌, ◌+◌, ◌≤◌, length, decimal};
+ghost use Rattle.std.specs.Prelude.{◌≡◌, ◌+◌, ◌≤◌, ◌++◌, length, decimal};
 ghost use Rattle.page.specs.Text.{written, then_comma};
 
 use arrayvec::ArrayString;
 
-// A number of 20 digits and its comma.
-const LONGEST_FIELD: usize = 21;
-
-// The decimal digits of `n`, and a comma.
-pub(crate) fn field(n: u64) -> ArrayString<LONGEST_FIELD>
-    ensures { result.bytes ≡ then_comma (decimal n) }
+// Puts the decimal digits of `n` and a comma, at most 21 bytes, after a text.
+#[inline(always)]
+pub(crate) fn push_field<const CAP: usize>(text: &mut ArrayString<CAP>, n: u64)
+    requires { length text.old.bytes + 21 ≤ CAP }
+    ensures bytes { text.new.bytes ≡ text.old.bytes ++ then_comma (decimal n) }
+    ensures longer { length text.new.bytes ≤ length text.old.bytes + 21 }
 {
-    let mut text = ArrayString::new();
     let mut digits = itoa::Buffer::new();
     text.push_str(digits.format(n));
     text.push_str(",");
-    text
 }
 
 // Writes `text` over `buffer` from `at` on, and answers the place after it.
