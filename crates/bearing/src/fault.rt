@@ -25,7 +25,7 @@ impl Refusal {
     pub fn number(self) -> u8
         ensures { result ≡ number_of self }
     {
-        self as u8
+        self as u8 // 1 to 14
     }
 }
 
@@ -42,7 +42,7 @@ impl Layer {
     pub fn number(self) -> u8
         ensures { result ≡ layer_number self }
     {
-        self as u8
+        self as u8 // 1 to 3
     }
 
     // A refusal of this layer, off a sheet and with no field.

@@ -49,9 +49,8 @@ module _ {B : Type 0} {force energy : B → Curve} (laws : (b : B) → Laws (for
   pub product_top : (rows : List B) (φ : Choice) (d most : ℕ) → length rows ≤ 64 → d ≤ most → d * total force rows φ d ≤ most * 6400000000
   product_top rows φ d most few near = mul-le-mul near (omega (arith, total_limit rows φ d))
 
-  -- at any displacement of 16 bits
-  pub energy_limit : (b : B) (s k d : ℕ) → d ≤ 65535 → energy b s k d ≤ 6553500000000
-  energy_limit b s k d near = le_trans ((laws b).energy_bound s k d) (mul-le-mul near ((laws b).force_limit s k d))
+  pub energy_limit : (b : B) (s k d most : ℕ) → d ≤ most → energy b s k d ≤ most * 100000000
+  energy_limit b s k d most near = le_trans ((laws b).energy_bound s k d) (mul-le-mul near ((laws b).force_limit s k d))
 
   module _ {says : ℕ → ℕ → ℕ → Bool} (keeps : RuleLaws says) where
     -- what meets the demand meets it with no lower factors, at no smaller displacement

@@ -15,7 +15,7 @@ pub overflow_add-e : goal.overflow_add-e
 overflow_add-e g c =
     let y = ap (λ (p : ℕ × ℕ). p.1) c.answer-x.ensures in
     let few : c.loop-b.b-index ≤ 64 = omega arith in
-    omega (arith, energy_limit g.met.B.Bearing.laws c.b-item.result c.args.self.now.s c.args.self.now.k c.args.d (omega arith))
+    omega (arith, energy_limit g.met.B.Bearing.laws c.b-item.result c.args.self.now.s c.args.self.now.k c.args.d 65535 (omega arith))
 
 pub loop-b-preserved : goal.loop-b-preserved
 loop-b-preserved g c =
@@ -27,5 +27,5 @@ loop-b-preserved g c =
       omega (arith, c.loop-b.invariant.1),
       omega (arith, c.loop-b.invariant.2),
       omega (arith, (g.met.B.Bearing.laws c.b-item.result).force_limit c.args.self.now.s c.args.self.now.k c.args.d),
-      omega (arith, energy_limit g.met.B.Bearing.laws c.b-item.result c.args.self.now.s c.args.self.now.k c.args.d (omega arith)),
+      omega (arith, energy_limit g.met.B.Bearing.laws c.b-item.result c.args.self.now.s c.args.self.now.k c.args.d 65535 (omega arith)),
     )
