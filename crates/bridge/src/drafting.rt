@@ -34,8 +34,8 @@ impl<'a, B: Copy> Draft<'a, B> {
 
     // Hangs a row at the end.
     pub fn hang(&mut self, row: B) -> Result<(), Fault>
-        ensures answer { result ≡ push_answer self.old.rows.capacity self.old.rows.items }
-        ensures rows { listed self.new.rows ≡ with_items (listed self.old.rows) (pushed self.old.rows.capacity self.old.rows.items row) }
+        ensures answer { result ≡ push_answer (listed self.old.rows).capacity (listed self.old.rows).items }
+        ensures rows { listed self.new.rows ≡ with_items (listed self.old.rows) (pushed (listed self.old.rows).capacity (listed self.old.rows).items row) }
         ensures weight { self.new.weight ≡ self.old.weight }
     {
         self.rows.push(row)
@@ -43,8 +43,8 @@ impl<'a, B: Copy> Draft<'a, B> {
 
     // Takes the last row off; its place serves again.
     pub fn take_off(&mut self) -> Result<(), Fault>
-        ensures answer { result ≡ pop_answer self.old.rows.items }
-        ensures rows { listed self.new.rows ≡ with_items (listed self.old.rows) (popped self.old.rows.items) }
+        ensures answer { result ≡ pop_answer (listed self.old.rows).items }
+        ensures rows { listed self.new.rows ≡ with_items (listed self.old.rows) (popped (listed self.old.rows).items) }
         ensures weight { self.new.weight ≡ self.old.weight }
     {
         self.rows.take_off()
@@ -63,7 +63,7 @@ impl<'a, B: Copy> Draft<'a, B> {
 impl<'a, B: Copy> Bridge<'a, B> {
     // How many rows hang.
     pub fn row_count(&self) -> usize
-        ensures { result ≡ length self.now.rows.items }
+        ensures { result ≡ length (listed self.now.rows).items }
     {
         self.rows.len()
     }
@@ -75,7 +75,7 @@ impl<'a, B: Copy> Bridge<'a, B> {
     }
 
     pub(crate) fn rows(&self) -> &[B]
-        ensures items { result.now ≡ self.now.rows.items }
+        ensures items { result.now ≡ (listed self.now.rows).items }
         ensures few { length result.now ≤ 64 }
     {
         self.rows.as_slice()

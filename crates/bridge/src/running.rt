@@ -11,8 +11,8 @@ use loading::Weight;
 
 impl<'a, B: Copy> Draft<'a, B> {
     fn enter(&mut self, call: &DraftCall<B>) -> Result<(), Fault>
-        ensures answer { result ≡ call_reply self.old.rows.capacity self.old.rows.items call.now }
-        ensures rows { listed self.new.rows ≡ with_items (listed self.old.rows) (called self.old.rows.capacity self.old.rows.items call.now) }
+        ensures answer { result ≡ call_reply (listed self.old.rows).capacity (listed self.old.rows).items call.now }
+        ensures rows { listed self.new.rows ≡ with_items (listed self.old.rows) (called (listed self.old.rows).capacity (listed self.old.rows).items call.now) }
         ensures weight { self.new.weight ≡ self.old.weight }
     {
         match call {
@@ -24,8 +24,8 @@ impl<'a, B: Copy> Draft<'a, B> {
 
 impl<'a, B: Bearing + Copy> Bridge<'a, B> {
     fn put<R: DampingRule>(&self, question: &Question<R>) -> Response
-        ensures values { response_values result ≡ asked B.force B.energy R.says self.now.rows.items self.now.weight.kn question.now }
-        ensures law { Law B.force B.energy R.says self.now.rows.items self.now.weight.kn question.now result }
+        ensures values { response_values result ≡ asked B.force B.energy R.says (listed self.now.rows).items self.now.weight.kn question.now }
+        ensures law { Law B.force B.energy R.says (listed self.now.rows).items self.now.weight.kn question.now result }
     {
         match question {
             Question::Query(case) => Response::Query(self.query(case)),
@@ -41,9 +41,9 @@ fn enter_all<B: Copy>(
     replies: &mut [Result<(), Fault>],
 )
     requires { length replies.old ≡ length calls.now }
-    ensures rows { listed draft.new.rows ≡ with_items (listed draft.old.rows) (hung_rows draft.old.rows.capacity draft.old.rows.items calls.now) }
+    ensures rows { listed draft.new.rows ≡ with_items (listed draft.old.rows) (hung_rows (listed draft.old.rows).capacity (listed draft.old.rows).items calls.now) }
     ensures weight { draft.new.weight ≡ draft.old.weight }
-    ensures answers { replies.new ≡ call_replies draft.old.rows.capacity draft.old.rows.items calls.now }
+    ensures answers { replies.new ≡ call_replies (listed draft.old.rows).capacity (listed draft.old.rows).items calls.now }
 {
     for (i, call) in calls.iter().enumerate() {
         replies[i] = draft.enter(call);
@@ -57,8 +57,8 @@ fn put_all<B: Bearing + Copy, R: DampingRule>(
     responses: &mut [Response],
 )
     requires { length responses.old ≡ length questions.now }
-    ensures values { map response_values responses.new ≡ map (asked B.force B.energy R.says bridge.now.rows.items bridge.now.weight.kn) questions.now }
-    ensures law { Each (Law B.force B.energy R.says bridge.now.rows.items bridge.now.weight.kn) questions.now responses.new }
+    ensures values { map response_values responses.new ≡ map (asked B.force B.energy R.says (listed bridge.now.rows).items bridge.now.weight.kn) questions.now }
+    ensures law { Each (Law B.force B.energy R.says (listed bridge.now.rows).items bridge.now.weight.kn) questions.now responses.new }
 {
     for (i, question) in questions.iter().enumerate() {
         responses[i] = bridge.put(question);

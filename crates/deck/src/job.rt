@@ -1,4 +1,5 @@
 ghost use Rattle.std.specs.Prelude.{◌≡◌, ◌+◌, length, Ok};
+ghost use Rattle.listing.specs.Lists.{listed};
 ghost use Rattle.bearing.specs.Refusals.{and_then, with_ok};
 ghost use Rattle.loading.specs.Making.{case_made};
 ghost use Rattle.bridge.specs.Answers.{queried};
@@ -16,7 +17,7 @@ use bridge::{Answer, Bridge};
 use listing::Listing;
 use loading::Case;
 use page::{Page, write_refusal};
-use sheet::{Numbers, Row, read_draft, spare_row};
+use sheet::{Numbers, Row, SheetDraft, read_draft, spare_row};
 
 // More bytes than any page takes: its names line, 16 case lines of at most 40 bytes, and its last line.
 pub const PAGE_SPACE: usize = 1_024;
@@ -38,7 +39,7 @@ pub struct Job {
 
 // The load case of these numbers, asked of the bridge.
 fn ask(bridge: &Bridge<'_, Row>, numbers: Numbers) -> Result<Answer, Fault>
-    ensures { reported result ≡ and_then (case_made numbers) (queried row_force row_energy rule_says bridge.now.rows.items bridge.now.weight.kn) }
+    ensures { reported result ≡ and_then (case_made numbers) (queried row_force row_energy rule_says (listed bridge.now.rows).items bridge.now.weight.kn) }
 {
     let case = Case::new(numbers)?;
     bridge.query(&case)
@@ -52,9 +53,9 @@ fn write_case(
 ) -> Result<usize, Fault>
     requires { case_made numbers ≡ Ok numbers }
     ensures same { page.new.buffer.ghost_name ≡ page.old.buffer.ghost_name }
-    ensures result { result ≡ with_ok (line_answer (length page.old.buffer.now) page.old.len page.old.cases (case_line (page.old.cases + 1) (case_outcome bridge.now.rows.items bridge.now.weight.kn numbers))) (λ _. one_if_answered (case_outcome bridge.now.rows.items bridge.now.weight.kn numbers)) }
-    ensures bytes { page.new.buffer.now ≡ lined (with_ok result (λ _. tt)) page.old.buffer.now page.old.len (case_line (page.old.cases + 1) (case_outcome bridge.now.rows.items bridge.now.weight.kn numbers)) }
-    ensures len { page.new.len ≡ lined_len (with_ok result (λ _. tt)) page.old.len (case_line (page.old.cases + 1) (case_outcome bridge.now.rows.items bridge.now.weight.kn numbers)) }
+    ensures result { result ≡ with_ok (line_answer (length page.old.buffer.now) page.old.len page.old.cases (case_line (page.old.cases + 1) (case_outcome (listed bridge.now.rows).items bridge.now.weight.kn numbers))) (λ _. one_if_answered (case_outcome (listed bridge.now.rows).items bridge.now.weight.kn numbers)) }
+    ensures bytes { page.new.buffer.now ≡ lined (with_ok result (λ _. tt)) page.old.buffer.now page.old.len (case_line (page.old.cases + 1) (case_outcome (listed bridge.now.rows).items bridge.now.weight.kn numbers)) }
+    ensures len { page.new.len ≡ lined_len (with_ok result (λ _. tt)) page.old.len (case_line (page.old.cases + 1) (case_outcome (listed bridge.now.rows).items bridge.now.weight.kn numbers)) }
     ensures cases { page.new.cases ≡ lined_count (with_ok result (λ _. tt)) page.old.cases }
 {
     let answer = ask(bridge, numbers);
@@ -70,9 +71,9 @@ fn write_cases(
     buffer: &mut [u8],
 ) -> (usize, Result<usize, Fault>)
     requires { AllMade cases.now }
-    ensures bytes { buffer.new ≡ (page_run buffer.old (outcomes bridge.now.rows.items bridge.now.weight.kn cases.now)).0 }
-    ensures written { result.0 ≡ (page_run buffer.old (outcomes bridge.now.rows.items bridge.now.weight.kn cases.now)).1 }
-    ensures result { result.1 ≡ with_ok (lines_answer (length buffer.old) (begun_len (length buffer.old)) 0 (outcomes bridge.now.rows.items bridge.now.weight.kn cases.now)) (λ _. answered (outcomes bridge.now.rows.items bridge.now.weight.kn cases.now)) }
+    ensures bytes { buffer.new ≡ (page_run buffer.old (outcomes (listed bridge.now.rows).items bridge.now.weight.kn cases.now)).0 }
+    ensures written { result.0 ≡ (page_run buffer.old (outcomes (listed bridge.now.rows).items bridge.now.weight.kn cases.now)).1 }
+    ensures result { result.1 ≡ with_ok (lines_answer (length buffer.old) (begun_len (length buffer.old)) 0 (outcomes (listed bridge.now.rows).items bridge.now.weight.kn cases.now)) (λ _. answered (outcomes (listed bridge.now.rows).items bridge.now.weight.kn cases.now)) }
 {
     let mut page = Page::begin(buffer);
     let mut answered: usize = 0;
@@ -106,9 +107,9 @@ fn refuse(fault: &Fault, buffer: &mut [u8]) -> Job
 // Asks a bridge its load cases, and writes the page.
 fn write_page(bridge: &Bridge<'_, Row>, cases: &[Numbers], page: &mut [u8]) -> Job
     requires { AllMade cases.now }
-    ensures bytes { page.new ≡ (page_done page.old bridge.now.rows.items (outcomes bridge.now.rows.items bridge.now.weight.kn cases.now)).bytes }
-    ensures written { result.written ≡ (page_done page.old bridge.now.rows.items (outcomes bridge.now.rows.items bridge.now.weight.kn cases.now)).written }
-    ensures result { result.result ≡ (page_done page.old bridge.now.rows.items (outcomes bridge.now.rows.items bridge.now.weight.kn cases.now)).result }
+    ensures bytes { page.new ≡ (page_done page.old (listed bridge.now.rows).items (outcomes (listed bridge.now.rows).items bridge.now.weight.kn cases.now)).bytes }
+    ensures written { result.written ≡ (page_done page.old (listed bridge.now.rows).items (outcomes (listed bridge.now.rows).items bridge.now.weight.kn cases.now)).written }
+    ensures result { result.result ≡ (page_done page.old (listed bridge.now.rows).items (outcomes (listed bridge.now.rows).items bridge.now.weight.kn cases.now)).result }
 {
     let (written, lines) = write_cases(bridge, cases, page);
     let (rows, cases) = (bridge.row_count(), cases.len());
@@ -130,8 +131,9 @@ pub fn answer_sheet(sheet: &[u8], page: &mut [u8]) -> Job
     let mut row_places = [spare_row(); 64];
     let mut case_places = [spare_case(); 16];
     let mut cases = Listing::new(&mut case_places);
-    match read_draft(sheet, &mut row_places, &mut cases) {
-        Ok(draft) => write_page(&draft.close(), cases.as_slice(), page),
+    let SheetDraft { draft, result } = read_draft(sheet, &mut row_places, &mut cases);
+    match result {
+        Ok(_) => write_page(&draft.close(), cases.as_slice(), page),
         Err(fault) => refuse(&fault, page),
     }
 }

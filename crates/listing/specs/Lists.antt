@@ -1,25 +1,19 @@
 -- What a list over lent places means: its elements. Assumes nothing.
-use Rattle.std.specs.Prelude.{ℕ, ◌-◌, Bool, cond, List, [], ◌∷◌, ◌++◌, length, take, Ok, Err, Result, nat_lt}
-use Rattle.std.specs.Borrow.{MutBor}
+use Rattle.std.specs.Prelude.{ℕ, ◌-◌, min, Bool, cond, List, [], ◌∷◌, ◌++◌, length, take, Ok, Err, Result, nat_lt}
 use Rattle.bearing.specs.declared.fault.Fault.{Fault}
 use Rattle.bearing.specs.declared.fault.Refusal.TheVariants.{NoPlace, NothingHung}
 use Rattle.bearing.specs.declared.fault.Layer.TheVariants.{Bridge}
 use Rattle.bearing.specs.Refusals.{plain_fault}
+use Rattle.listing.specs.declared.places.Listing.{Listing}
 
 -- a list over lent places: its elements, and how many it can hold
 pub record Listed (T : Type 0) : Type 0 where
   pub items : List T
   pub capacity : ℕ
 
--- the same with the places themselves, as they were lent
-pub record Lent (T : Type 0) : Type 0 where
-  pub items : List T
-  pub capacity : ℕ
-  pub places : MutBor (List T)
-
--- its elements and how many it can hold
-abbrev pub listed : {T : Type 0} → Lent T → Listed T
-listed l = record { items = l.items; capacity = l.capacity }
+-- its elements are the first `count` places; it can hold as many as there are places, at most MAX
+abbrev pub listed : {T : Type 0} {MAX : ℕ} → Listing T MAX → Listed T
+listed {MAX = m} l = record { items = take l.count l.places.now; capacity = min m (length l.places.now) }
 
 -- the same places with these elements
 abbrev pub with_items : {T : Type 0} → Listed T → List T → Listed T

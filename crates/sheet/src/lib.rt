@@ -11,7 +11,7 @@ mod reading;
 mod rowlines;
 
 pub use caselines::{Numbers, SheetRule};
-pub use drafts::{read_draft, spare_row};
+pub use drafts::{SheetDraft, read_draft, spare_row};
 pub use numbers::number;
 pub use parts::split_first;
 pub use reading::read;

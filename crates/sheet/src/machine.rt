@@ -26,8 +26,8 @@ fn keep<T: Copy, const MAX: usize>(
     list: &mut Listing<'_, T, MAX>,
     x: Result<T, Fault>,
 ) -> Result<(), Fault>
-    ensures result { result ≡ answer (kept list.old.capacity list.old.items x) }
-    ensures list { listed list.new ≡ with_items (listed list.old) (after (kept list.old.capacity list.old.items x) list.old.items) }
+    ensures result { result ≡ answer (kept (listed list.old).capacity (listed list.old).items x) }
+    ensures list { listed list.new ≡ with_items (listed list.old) (after (kept (listed list.old).capacity (listed list.old).items x) (listed list.old).items) }
 {
     list.push(x?)
 }
@@ -61,10 +61,10 @@ impl Reader {
         rows: &mut Listing<'_, Row, 64>,
         cases: &mut Listing<'_, Numbers, 16>,
     ) -> Result<(), Fault>
-        ensures result { result ≡ answer (step rows.old.capacity cases.old.capacity (state_of self.old rows.old.items cases.old.items) line.now) }
-        ensures state { state_of self.new rows.new.items cases.new.items ≡ after (step rows.old.capacity cases.old.capacity (state_of self.old rows.old.items cases.old.items) line.now) (state_of self.old rows.old.items cases.old.items) }
-        ensures rowplaces { rows.new.capacity ≡ rows.old.capacity }
-        ensures caseplaces { cases.new.capacity ≡ cases.old.capacity }
+        ensures result { result ≡ answer (step (listed rows.old).capacity (listed cases.old).capacity (state_of self.old (listed rows.old).items (listed cases.old).items) line.now) }
+        ensures state { state_of self.new (listed rows.new).items (listed cases.new).items ≡ after (step (listed rows.old).capacity (listed cases.old).capacity (state_of self.old (listed rows.old).items (listed cases.old).items) line.now) (state_of self.old (listed rows.old).items (listed cases.old).items) }
+        ensures rowplaces { (listed rows.new).capacity ≡ (listed rows.old).capacity }
+        ensures caseplaces { (listed cases.new).capacity ≡ (listed cases.old).capacity }
     {
         match (*self, line) {
             (Reader::WeightNames, _) => self.name(line, b"weight", Reader::WeightValue),

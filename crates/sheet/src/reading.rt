@@ -20,9 +20,9 @@ fn read_lines(
     cases: &mut Listing<'_, Numbers, 16>,
 ) -> Result<Weight, Fault>
     requires { length sheet.now ≤ 16384 }
-    ensures content { with_ok result (λ w. record { weight = w.kn; rows = rows.new.items; cases = cases.new.items }) ≡ read_parts rows.old.capacity cases.old.capacity 1 (begun_with rows.old.items cases.old.items) (parts 10 sheet.now) }
-    ensures rowplaces { rows.new.capacity ≡ rows.old.capacity }
-    ensures caseplaces { cases.new.capacity ≡ cases.old.capacity }
+    ensures content { with_ok result (λ w. record { weight = w.kn; rows = (listed rows.new).items; cases = (listed cases.new).items }) ≡ read_parts (listed rows.old).capacity (listed cases.old).capacity 1 (begun_with (listed rows.old).items (listed cases.old).items) (parts 10 sheet.now) }
+    ensures rowplaces { (listed rows.new).capacity ≡ (listed rows.old).capacity }
+    ensures caseplaces { (listed cases.new).capacity ≡ (listed cases.old).capacity }
 {
     let mut reader = Reader::WeightNames;
     let mut left = sheet;
@@ -45,11 +45,11 @@ pub fn read(
     rows: &mut Listing<'_, Row, 64>,
     cases: &mut Listing<'_, Numbers, 16>,
 ) -> Result<Weight, Fault>
-    ensures weight { with_ok result (λ w. w.kn) ≡ with_ok (read_sheet rows.old.capacity cases.old.capacity sheet.now) (λ c. c.weight) }
-    ensures rows { listed rows.new ≡ with_items (listed rows.old) (rows_read (read_sheet rows.old.capacity cases.old.capacity sheet.now)) }
-    ensures cases { listed cases.new ≡ with_items (listed cases.old) (cases_read (read_sheet rows.old.capacity cases.old.capacity sheet.now)) }
-    ensures made { AllMade cases.new.items }
-    ensures text { TextLaw rows.old.capacity cases.old.capacity sheet.now }
+    ensures weight { with_ok result (λ w. w.kn) ≡ with_ok (read_sheet (listed rows.old).capacity (listed cases.old).capacity sheet.now) (λ c. c.weight) }
+    ensures rows { listed rows.new ≡ with_items (listed rows.old) (rows_read (read_sheet (listed rows.old).capacity (listed cases.old).capacity sheet.now)) }
+    ensures cases { listed cases.new ≡ with_items (listed cases.old) (cases_read (read_sheet (listed rows.old).capacity (listed cases.old).capacity sheet.now)) }
+    ensures made { AllMade (listed cases.new).items }
+    ensures text { TextLaw (listed rows.old).capacity (listed cases.old).capacity sheet.now }
 {
     rows.clear();
     cases.clear();

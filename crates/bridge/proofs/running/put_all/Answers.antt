@@ -1,12 +1,13 @@
 use Rattle.std.proofs.Common.{take, sym, arith}
+use Rattle.listing.specs.Lists.{listed}
 use Rattle.bridge.specs.Replay.{response_values, asked, Law, Each}
 use Rattle.bridge.proofs.Entering.{put_next, one_taken, each_append, map_append, subst₂}
 use Rattle.bridge.proofs.running.put_all.Goals as goal
 
 pub loop-i-preserved : goal.loop-i-preserved
 loop-i-preserved g c =
-    let f = asked g.B.Bearing.force g.B.Bearing.energy g.R.DampingRule.says c.args.bridge.now.rows.items c.args.bridge.now.weight.kn in
-    let L = Law g.B.Bearing.force g.B.Bearing.energy g.R.DampingRule.says c.args.bridge.now.rows.items c.args.bridge.now.weight.kn in
+    let f = asked g.B.Bearing.force g.B.Bearing.energy g.R.DampingRule.says (listed c.args.bridge.now.rows).items c.args.bridge.now.weight.kn in
+    let L = Law g.B.Bearing.force g.B.Bearing.energy g.R.DampingRule.says (listed c.args.bridge.now.rows).items c.args.bridge.now.weight.kn in
     let rs = take c.loop-i.i c.loop-i.responses in
     let qs = take c.loop-i.i c.args.questions.now in
     let q = c.index-questions-i.result in

@@ -1,4 +1,5 @@
 use Rattle.std.proofs.Common.{◌≡◌, ℕ, ◌+◌, ◌<◌, ◌≤◌, List, length, get_or, Ok, Err, Result, ap, ◌∙◌, arith, rules}
+use Rattle.listing.specs.Lists.{listed}
 use Rattle.bearing.specs.declared.fault.Fault.{Fault}
 use Rattle.bearing.specs.Refusals.{with_ok}
 use Rattle.page.specs.Text.{case_line, end_line, void_line}
@@ -11,7 +12,7 @@ use Rattle.deck.proofs.job.write_cases.Goals as goal
 -- a line that is taken answers one case at most
 one_case : (c : goal.In-Ok) → c.in-Ok.one ≤ 1
 one_case c =
-    let o = case_outcome c.args.bridge.now.rows.items c.args.bridge.now.weight.kn (get_or c.args.cases.now c.loop-numbers.numbers-index past) in
+    let o = case_outcome (listed c.args.bridge.now.rows).items c.args.bridge.now.weight.kn (get_or c.args.cases.now c.loop-numbers.numbers-index past) in
     omega (
       arith,
       one_at_most o,
@@ -26,7 +27,7 @@ overflow_add-answered c = let one : c.in-Ok.one ≤ 1 = one_case c in omega arit
 
 pub returns-in-Err : goal.returns-in-Err
 returns-in-Err c =
-    let rows = c.args.bridge.now.rows.items in
+    let rows = (listed c.args.bridge.now.rows).items in
     let W = c.args.bridge.now.weight.kn in
     let os = outcomes rows W c.args.cases.now in
     let l : c.loop-numbers.numbers-index < length c.args.cases.now = omega arith in
@@ -42,7 +43,7 @@ returns-in-Err c =
 
 pub loop-numbers-preserved : goal.loop-numbers-preserved
 loop-numbers-preserved c =
-    let rows = c.args.bridge.now.rows.items in
+    let rows = (listed c.args.bridge.now.rows).items in
     let W = c.args.bridge.now.weight.kn in
     let l : c.loop-numbers.numbers-index < length c.args.cases.now = omega arith in
     let one : c.in-Ok.one ≤ 1 = one_case c in (
@@ -55,7 +56,7 @@ loop-numbers-preserved c =
 
 pub returns : goal.returns
 returns c =
-    let rows = c.args.bridge.now.rows.items in
+    let rows = (listed c.args.bridge.now.rows).items in
     let W = c.args.bridge.now.weight.kn in
     let os = outcomes rows W c.args.cases.now in
     let l : length c.args.cases.now ≤ c.loop-numbers.numbers-index = omega arith in

@@ -1,4 +1,5 @@
 use Rattle.std.proofs.Common.{ℕ, length, is_some, sym, ap, ◌∙◌, arith}
+use Rattle.listing.specs.Lists.{listed}
 use Rattle.loading.proofs.Demands.{demand_low, demand_top}
 use Rattle.bridge.specs.Sums.{all_at}
 use Rattle.bridge.specs.Design.{design}
@@ -10,7 +11,7 @@ pub unwrap-dhigh-requires : goal.unwrap-dhigh-requires
 unwrap-dhigh-requires g c =
     let case = c.args.case.now in
     let weight = c.args.self.now.weight in
-    let rows = c.args.self.now.rows.items in
+    let rows = (listed c.args.self.now.rows).items in
     ap is_some (c.design_at.ensures ∙ ap (λ (p : ℕ × ℕ). design (meets g.B.Bearing.force g.B.Bearing.energy g.R.DampingRule.says rows weight.kn case.numbers (all_at p.0 p.1))) c.highest.ensures)
     ∙ high_there g.B.Bearing.force g.B.Bearing.energy g.R.DampingRule.says rows weight.kn case.numbers g.met.B.Bearing.laws g.met.R.DampingRule.laws
     (omega (arith, ap length c.rows.ensures.items)) case.sordered case.kordered

@@ -1,4 +1,5 @@
 use Rattle.loading.proofs.Demands.{demand_low, demand_top}
+use Rattle.listing.specs.Lists.{listed}
 use Rattle.bridge.proofs.Covering.{query_law}
 use Rattle.bridge.proofs.drafting.Bridge.query.Goals as goal
 
@@ -6,6 +7,6 @@ pub returns-clause-law : goal.returns-clause-law
 returns-clause-law g c =
     let case = c.args.case.now in
     let weight = c.args.self.now.weight in
-    query_law g.met.B.Bearing.laws g.met.R.DampingRule.laws c.args.self.now.rows.items c.answer.ensures.few weight.kn case.numbers
+    query_law g.met.B.Bearing.laws g.met.R.DampingRule.laws (listed c.args.self.now.rows).items c.answer.ensures.few weight.kn case.numbers
     case.sordered case.kordered (demand_low case.numbers weight.kn case.accelfrom weight.low) (demand_top case.numbers weight.kn case.accelto weight.high)
     c.answer.result c.answer.ensures.answer

@@ -1,4 +1,5 @@
 use Rattle.std.proofs.Common.{◌≡◌, ℕ, ◌-◌, List, length, get_or, Ok, sym, ap, ◌∙◌, arith}
+use Rattle.listing.specs.Lists.{listed}
 use Rattle.bridge.proofs.Totals.{at_row_is}
 use Rattle.bridge.proofs.Answering.{found_is, row_answered_is}
 use Rattle.bridge.proofs.drafting.Bridge.row_force.Goals as goal
@@ -6,7 +7,7 @@ use Rattle.bridge.proofs.drafting.Bridge.row_force.Goals as goal
 pub returns-clause-answer : goal.returns-clause-answer
 returns-clause-answer g c =
     let n = c.args.case.now.numbers in
-    let rows = c.args.self.now.rows.items in
+    let rows = (listed c.args.self.now.rows).items in
     let dlow = c.in_ok-dlow.dlow in
     let long = ap length c.rows-rows.ensures.items in
     let found = found_is _ _ dlow (sym c.design_low.ensures ∙ c.in_ok-dlow.was) in

@@ -1,4 +1,5 @@
 use Rattle.std.proofs.Common.{◌≡◌, ◌<◌, ◌≤◌, Bool, cond, length, get_or, refl, ap, ◌∙◌, rules, Err}
+use Rattle.listing.specs.Lists.{listed}
 use Rattle.std.proofs.lemmas.Bool.{lt-ltb}
 use Rattle.bearing.specs.Refusals.{with_ok}
 use Rattle.sheet.specs.declared.machine.Reader.{Reader}
@@ -10,8 +11,8 @@ use Rattle.sheet.proofs.machine.Reader.take.Goals as goal
 
 pub returns-in-WeightNames-default : goal.returns-in-WeightNames-default
 returns-in-WeightNames-default c =
-    let rows = c.args.rows.now in
-    let cases = c.args.cases.now in
+    let rows = listed c.args.rows.now in
+    let cases = listed c.args.cases.now in
     let line = c.args.line.now in
     let t = changed rows.capacity cases.capacity (state_of c.args.self.now rows.items cases.items) line
     (named_as weight_names (standing reader.WeightValue) line) (λ s. record { at = s; rows = rows.items; cases = cases.items }) (standing c.args.self.now) refl
@@ -21,8 +22,8 @@ returns-in-WeightNames-default c =
 
 pub returns-in-WeightValue-default : goal.returns-in-WeightValue-default
 returns-in-WeightValue-default c =
-    let rows = c.args.rows.now in
-    let cases = c.args.cases.now in
+    let rows = listed c.args.rows.now in
+    let cases = listed c.args.cases.now in
     let line = c.args.line.now in
     let t = changed rows.capacity cases.capacity (state_of c.args.self.now rows.items cases.items) line
     (weighed (standing c.args.self.now) line) (λ s. record { at = s; rows = rows.items; cases = cases.items }) (standing c.args.self.now) refl
@@ -32,8 +33,8 @@ returns-in-WeightValue-default c =
 
 pub returns-in-RowNames-default : goal.returns-in-RowNames-default
 returns-in-RowNames-default c =
-    let rows = c.args.rows.now in
-    let cases = c.args.cases.now in
+    let rows = listed c.args.rows.now in
+    let cases = listed c.args.cases.now in
     let line = c.args.line.now in
     let t = changed rows.capacity cases.capacity (state_of c.args.self.now rows.items cases.items) line
     (named_as row_names (standing (reader.Rows c.in-RowNames-default.weight)) line) (λ s. record { at = s; rows = rows.items; cases = cases.items }) (standing c.args.self.now) refl
@@ -43,8 +44,8 @@ returns-in-RowNames-default c =
 
 pub returns-in-Rows-eq99 : goal.returns-in-Rows-eq99
 returns-in-Rows-eq99 c =
-    let rows = c.args.rows.now in
-    let cases = c.args.cases.now in
+    let rows = listed c.args.rows.now in
+    let cases = listed c.args.cases.now in
     let line = c.args.line.now in
     let weight = c.in-Rows-eq99.weight in
     let l : 4 ≤ length c.args.line.now = search rules in
@@ -52,7 +53,7 @@ returns-in-Rows-eq99 c =
     let b1 : get_or c.args.line.now 1 0 ≡ 97 = search rules in
     let b2 : get_or c.args.line.now 2 0 ≡ 115 = search rules in
     let b3 : get_or c.args.line.now 3 0 ≡ 101 = search rules in
-    let some : 0 < length c.args.rows.now.items = search rules in
+    let some : 0 < length (listed c.args.rows.now).items = search rules in
     let to : Standing → State = λ s. record { at = s; rows = rows.items; cases = cases.items } in
     let next = named_as case_names (standing (reader.Cases weight)) line in
     let t = changed rows.capacity cases.capacity (state_of c.args.self.now rows.items cases.items) line next to (standing c.args.self.now) refl
